@@ -2,6 +2,7 @@ pub mod Address
 pub mod Selection
 pub mod Same
 pub mod Facts
+pub mod Prefixes
 pub mod Machine
 pub mod Counters
 pub mod PolicyList

@@ -117,14 +117,13 @@ impl Addr {
 }
 
 impl Prefix {
-    ghost use Rattle.xf_types.specs.Address.{cut};
+    ghost use Rattle.xf_types.specs.Prefixes.{prefix_at};
     ghost use Rattle.xf_types.specs.Selection.{IsInPrefix, in_prefix};
 
     /// The prefix of this length that holds `addr`: the bits past `len` are cleared.
     pub fn new(addr: Addr, len: u8) -> Prefix
         requires { len ≤ width_of addr }
-        ensures length { result.len ≡ len }
-        ensures bits { result.addr ≡ cut addr len }
+        ensures { result ≡ prefix_at addr len }
     {
         Prefix {
             addr: addr.cut(len),

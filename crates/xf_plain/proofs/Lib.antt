@@ -1,0 +1,5 @@
+pub mod Places
+pub mod Inserting
+pub mod Numbers
+pub mod Flows
+pub mod Counting

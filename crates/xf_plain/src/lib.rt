@@ -1,0 +1,8 @@
+//! The plain machine: the databases as plain lists, and each call answered by scanning them.
+#![tactic(auto)]
+
+mod indices;
+mod listing;
+mod plain;
+
+pub use plain::Plain;
