@@ -14,7 +14,7 @@ use Rattle.xf_types.specs.OwnParts.{own_in}
 use Rattle.xf_types.specs.TrafficRules.{packet_number, id_of_packet}
 use Rattle.xf_types.specs.History.{machine_next}
 
--- a state's id, and a number that it accepted
+-- a state id, and a number that the state accepted
 pub record Accepting : Type 0 where
   pub sid : ℕ
   pub number : ℕ
@@ -36,6 +36,6 @@ abbrev pub acceptings : Machine → List Receipt → List Accepting
 acceptings m [] = []
 acceptings m (r ∷ rs) = option_to_list (accepting_of m r.call r.reply) ++ acceptings (machine_next m r) rs
 
--- no state with a replay window accepts a number twice
+-- no state with a replay window accepts a number twice; over several phases the histories are joined
 abbrev pub AcceptsOnce : Machine → List Receipt → Type 0
 AcceptsOnce start history = AllPairs (λ a b. a ≡ b → ⊥) (acceptings start history)

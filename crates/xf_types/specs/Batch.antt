@@ -1,6 +1,6 @@
 -- What a batch asks for: phases of lines, each line of a worker, and which histories are a shuffle of the threads' calls.
 -- Which lines a text spells is said where lines are read.
-use Rattle.std.specs.Prelude.{◌≡◌, ℕ, zero, suc, ◌==◌, ◌+◌, ◌%◌, List, [], ◌∷◌, ◌++◌, filter, map, ◌<◌, All, length}
+use Rattle.std.specs.Prelude.{◌≡◌, ℕ, ◌==◌, ◌+◌, ◌%◌, List, [], ◌∷◌, ◌++◌, filter, map, ◌<◌, All, length}
 use Rattle.xf_types.specs.declared.call.Call.{Call}
 use Rattle.xf_types.specs.declared.call.Call.TheVariants as call
 use Rattle.xf_types.specs.declared.call.Hop.{Hop}
@@ -8,6 +8,7 @@ use Rattle.xf_types.specs.declared.call.Reply.{Reply}
 use Rattle.xf_types.specs.declared.call.Reply.TheVariants as reply
 use Rattle.xf_types.specs.declared.call.Receipt.{Receipt}
 use Rattle.xf_types.specs.declared.network.Flow.{Flow}
+use Rattle.xf_types.specs.Counters.{upwards}
 
 -- a call line: one call, or a flow and then an output for each hop of its path
 pub data Line : Type 0 where
@@ -23,14 +24,9 @@ pub record WorkerLine : Type 0 where
 abbrev pub calls_of_thread : ℕ → List WorkerLine → ℕ → List Line
 calls_of_thread threads phase thread = map (λ l. l.line) (filter (λ l. l.worker % threads == thread) phase)
 
--- the numbers from n on, count of them
-abbrev pub numbers_from : ℕ → ℕ → List ℕ
-numbers_from n zero = []
-numbers_from n (suc count) = n ∷ numbers_from (n + 1) count
-
 -- the lines of each thread
 abbrev pub threads_of : ℕ → List WorkerLine → List (List Line)
-threads_of threads phase = map (calls_of_thread threads phase) (numbers_from 0 threads)
+threads_of threads phase = map (calls_of_thread threads phase) (upwards 0 threads)
 
 -- the path that a reply gives, if it gives one
 abbrev pub path_of : Reply → List Hop

@@ -1,6 +1,6 @@
 -- How often what a lookup reads was changed: one count for the policies and one for each bucket of states. They stand beside
 -- the machine and not in it, since no reply shows them. A list of moves begins at a shown part, and each move finds the shown
--- part that the moves before it left.
+-- part that the moves before it left. An act counts, also where it writes what was there.
 use Rattle.std.specs.Prelude.{ℕ, Bool, true, false, not, ◌&&◌, ◌||◌, ◌==◌, ◌+◌, List, [], ◌∷◌, ◌++◌, filter, if◌then◌else◌}
 use Rattle.std.specs.List.{list_any}
 use Rattle.xf_types.specs.declared.policy.Policy.{Policy}
@@ -14,13 +14,10 @@ use Rattle.xf_types.specs.Machine.{Shown}
 use Rattle.xf_types.specs.StateList.{has_sid}
 use Rattle.xf_types.specs.Moves.{after_move}
 
--- the tests of equality on flags and on pairs of lengths
+-- two flags are equal
 abbrev pub same_flag : Bool → Bool → Bool
 same_flag true b = b
 same_flag false b = not b
-
-abbrev pub same_lens : ℕ × ℕ → ℕ × ℕ → Bool
-same_lens a b = (a.0 == b.0) && (a.1 == b.1)
 
 -- the two lists have the same records: a number is given to one record alone, of which only the soft flag changes later
 abbrev pub same_policies : List Policy → List Policy → Bool
@@ -29,13 +26,17 @@ same_policies [] (q ∷ qs) = false
 same_policies (p ∷ ps) [] = false
 same_policies (p ∷ ps) (q ∷ qs) = (p.number == q.number) && same_flag p.soft q.soft && same_policies ps qs
 
+-- the call set the thresholds
+abbrev pub sets_thresholds : Reply → Bool
+sets_thresholds reply.Done = true
+sets_thresholds other = false
+
 -- the move changes the policy list or the thresholds
 abbrev pub changes_policies : Shown → Receipt → Bool
 changes_policies s r =
-    let new = after_move s r.call r.reply in
-    not (same_policies s.policies new.policies) || not (same_lens s.hthresh4 new.hthresh4) || not (same_lens s.hthresh6 new.hthresh6)
+    not (same_policies s.policies (after_move s r.call r.reply).policies) || sets_thresholds r.reply
 
--- the call and its reply update the state with this number: its record is replaced, though perhaps by what was there
+-- the call updates the state with this state id
 abbrev pub refreshes : Call → Reply → ℕ → Bool
 refreshes (call.StateUpdate spec) (reply.DoneSid updated) sid = updated == sid
 refreshes c other sid = false
@@ -57,12 +58,31 @@ count_moves changes s [] = 0
 count_moves changes s (r ∷ rs) =
     (if changes s r then 1 else 0) + count_moves changes (after_move s r.call r.reply) rs
 
--- the policy id: how many moves changed the policy list or the thresholds
+-- how many moves from this shown part on changed the policy list or the thresholds; from the empty machine, the policy id
 abbrev pub policy_id : Shown → List Receipt → ℕ
 policy_id start moves = count_moves changes_policies start moves
 
--- the id of a bucket, by the bucket of each state: how many moves added, removed or changed a state in it. The bucket rests on
--- the state's destination and reqid, which no move changes
+-- how many moves from this shown part on added, removed or changed a state in a bucket; from the empty machine, the bucket's
+-- id. The bucket of a state rests on its destination and reqid, which no move changes
 abbrev pub bucket_id : (Sa → ℕ) → ℕ → Shown → List Receipt → ℕ
 bucket_id bucket_of bucket start moves =
     count_moves (λ s r. list_any (λ x. bucket_of x == bucket) (states_changed s r)) start moves
+
+-- the ids at one moment: that of the policies, and that of each bucket in order
+pub record ChangeIds : Type 0 where
+  pub of_policies : ℕ
+  pub of_buckets : List ℕ
+
+-- the ids of the buckets from this one on, after a list of moves from this shown part
+abbrev pub bucket_ids_after : (Sa → ℕ) → Shown → List Receipt → ℕ → List ℕ → List ℕ
+bucket_ids_after bucket_of start moves bucket [] = []
+bucket_ids_after bucket_of start moves bucket (id ∷ ids) =
+    (id + bucket_id bucket_of bucket start moves) ∷ bucket_ids_after bucket_of start moves (bucket + 1) ids
+
+-- the ids after a list of moves, from those at this shown part
+abbrev pub ids_after : (Sa → ℕ) → Shown → ChangeIds → List Receipt → ChangeIds
+ids_after bucket_of start ids moves =
+    record {
+      of_policies = ids.of_policies + policy_id start moves;
+      of_buckets = bucket_ids_after bucket_of start moves 0 ids.of_buckets;
+    }

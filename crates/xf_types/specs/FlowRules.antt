@@ -51,7 +51,7 @@ acquired_spec p t src dst seq =
       facts = all_zero;
     }
 
--- a larval state with a fresh number is added where there is room
+-- a larval state with a fresh sequence number is added where there is room
 abbrev pub acquired : Shown → Policy → Template → Addr → Addr → Answer
 acquired s p t src dst =
     if is_full s then full_of_states s

@@ -1,5 +1,5 @@
 -- Which lists of receipts are the history of one machine.
-use Rattle.std.specs.Prelude.{◌≡◌, ℕ, Bool, true, false, not, ◌==◌, ◌+◌, ◌<◌, ◌≤◌, nat_lt, zero, suc, List, [], ◌∷◌, length, count_by, take_while, All, IsTrue, MatchBool, if◌then◌else◌}
+use Rattle.std.specs.Prelude.{◌≡◌, ℕ, Bool, true, false, not, ◌==◌, ◌+◌, ◌<◌, ◌≤◌, nat_lt, zero, suc, List, [], ◌∷◌, ◌++◌, length, count_by, take_while, Option, None, Some, IfSome, All, IsTrue, MatchBool, if◌then◌else◌}
 use Rattle.std.specs.List.{list_any}
 use Rattle.xf_types.specs.declared.call.Call.{Call}
 use Rattle.xf_types.specs.declared.call.Call.TheVariants as call
@@ -134,6 +134,15 @@ IsUncontended history = All (λ r. is_contended r.reply ≡ false) history
 abbrev pub has_refusal : List Receipt → Bool
 has_refusal history = list_any (λ r. is_refusal_of r.reply) history
 
+-- how many tries a call was given up after
+abbrev pub tries_of : Reply → Option ℕ
+tries_of (reply.Again tries) = Some tries
+tries_of _ = None
+
+-- each call that was given up had this many tries
+abbrev pub GivesUpAfter : ℕ → List Receipt → Type 0
+GivesUpAfter tries history = All (λ r. IfSome (tries_of r.reply) (λ n. n ≡ tries)) history
+
 -- the moment after a list of receipts; its machine is the machine of the history
 abbrev pub moment_of : Moment → List Receipt → Moment
 moment_of t [] = t
@@ -142,3 +151,13 @@ moment_of t (r ∷ rs) = moment_of (next_moment t r) rs
 -- the machine after a history
 abbrev pub machine_of : Machine → List Receipt → Machine
 machine_of start history = (moment_of (beginning start) history).machine
+
+-- each phase's history is legal, from the machine that the phases before it left
+abbrev pub AreLegalHistories : Machine → List (List Receipt) → Type 0
+AreLegalHistories start [] = Unit {0}
+AreLegalHistories start (h ∷ hs) = IsLegalHistory start h × AreLegalHistories (machine_of start h) hs
+
+-- the histories of all phases, one after another
+abbrev pub joined : List (List Receipt) → List Receipt
+joined [] = []
+joined (h ∷ hs) = h ++ joined hs

@@ -30,7 +30,7 @@ pub record IsPolicyList (s : Shown) : Type 0 where
   pub numbers : AllPairs (λ p q. p.number ≡ q.number → ⊥) s.policies
   pub numbers_given : All (λ p. p.number < s.next_number) s.policies
 
--- no two states share an id, and the ids were given
+-- no two states share a state id, and each was given
 pub record IsStateList (s : Shown) : Type 0 where
   pub sids : AllPairs (λ x y. x.sid ≡ y.sid → ⊥) s.states
   pub sids_given : All (λ x. x.sid < s.next_sid) s.states

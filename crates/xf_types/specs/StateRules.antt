@@ -1,7 +1,8 @@
 -- The rules of the calls on states. They read the shown part alone.
-use Rattle.std.specs.Prelude.{ℕ, zero, suc, Bool, true, false, not, ◌&&◌, ◌==◌, ◌+◌, ◌-◌, nat_le, nat_lt, min, List, [], ◌∷◌, Option, None, Some, length, filter, find, count_by, if◌then◌else◌}
+use Rattle.std.specs.Prelude.{◌≡◌, ◌≤◌, ◌<◌, ℕ, Bool, true, false, not, ◌&&◌, ◌==◌, ◌+◌, ◌-◌, nat_le, nat_lt, min, List, Option, None, Some, length, filter, find, count_by, if◌then◌else◌}
 use Rattle.std.specs.List.{list_any}
 use Rattle.xf_types.specs.Facts.{all_zero}
+use Rattle.xf_types.specs.Counters.{upwards}
 use Rattle.xf_types.specs.declared.network.Proto.{Proto}
 use Rattle.xf_types.specs.declared.network.Selector.{Selector}
 use Rattle.xf_types.specs.declared.state.Sa.{Sa}
@@ -101,20 +102,21 @@ state_flush s proto = states_removed s (λ x. meets_one same_proto proto x.spec.
 abbrev pub state_count : Shown → Answer
 state_count s = stays (StateCount (length s.states))
 
--- the numbers from n up, count of them
-abbrev pub upwards : ℕ → ℕ → List ℕ
-upwards n zero = []
-upwards n (suc count) = n ∷ upwards (n + 1) count
-
 -- the SPI is that of a listed state with this destination and protocol, whatever its mark
 abbrev pub is_spi_taken : AllocSpec → List Sa → ℕ → Bool
 is_spi_taken spec states spi =
     list_any (λ s. same_addr s.spec.dst spec.dst && same_proto s.spec.proto spec.proto && (s.spec.spi == spi)) states
 
--- the least free SPI of the range: of more candidates than there are states one is free
+-- the least free SPI of the range. Of one more candidate than there are states one is free, so no more are asked
 abbrev pub free_spi : AllocSpec → List Sa → Option ℕ
 free_spi spec states =
     find (λ spi. not (is_spi_taken spec states spi)) (upwards spec.min (min (spec.max + 1 - spec.min) (length states + 1)))
+
+-- no SPI of the range that is less is free, and this one is: what the search finds
+pub record IsLeastFree (spec : AllocSpec) (states : List Sa) (spi : ℕ) : Type 0 where
+  pub in_range : (spec.min ≤ spi) × (spi ≤ spec.max)
+  pub free : is_spi_taken spec states spi ≡ false
+  pub below : (n : ℕ) → spec.min ≤ n → n < spi → is_spi_taken spec states n ≡ true
 
 -- the larval state with this SPI
 abbrev pub larval_spec : AllocSpec → ℕ → SaSpec

@@ -9,7 +9,7 @@ use crate::{
 use arrayvec::ArrayVec;
 use std::marker::Model;
 
-/// A packet that came in. Its number has 32 bits.
+/// A packet that came in. Its sequence number has 32 bits and its length is in bytes; its source is not asked.
 #[derive(Clone, Copy, PartialEq, Eq, Debug)]
 pub struct Packet {
     pub src: Addr,
@@ -142,7 +142,7 @@ impl Events {
     }
 }
 
-/// Where a call stands in the input.
+/// Where a call stands in the input: its line, and part 0, or 1 to 6 for the outputs of a send.
 #[derive(Clone, Copy, PartialEq, Eq, Debug)]
 pub struct Place {
     pub line: u64,

@@ -61,7 +61,8 @@ impl Model for Templates {
     ghost inverse = { λ xs. record { items = record { items = xs } } };
 }
 
-/// When a policy or a state warns, and when it ends. A time of 0 is no limit.
+/// When a policy or a state warns, and when it ends (RFC 4301, 4.4.2.1). Times are in seconds, and 0 is no limit; a byte or
+/// packet limit of 0 is a limit.
 #[derive(Clone, Copy, PartialEq, Eq, Debug)]
 pub struct Limits {
     pub time_soft: u64,
@@ -74,7 +75,7 @@ pub struct Limits {
     pub packet_hard: Option<u64>,
 }
 
-/// A policy as it is asked for.
+/// A policy as it is asked for. An index of 0 asks for none.
 #[derive(Clone, PartialEq, Eq, Debug, Drop)]
 pub struct PolicySpec {
     pub dir: Dir,
@@ -167,6 +168,26 @@ impl Model for Policies {
     ghost Value = { List Policy };
 
     ghost view = { λ p. p.items.items };
+}
+
+impl Limits {
+    ghost use Rattle.xf_types.specs.StateList.{no_limits};
+
+    /// No limit at all.
+    pub fn none() -> Limits
+        ensures { result ≡ no_limits }
+    {
+        Limits {
+            time_soft: 0,
+            time_hard: 0,
+            use_soft: 0,
+            use_hard: 0,
+            byte_soft: None,
+            byte_hard: None,
+            packet_soft: None,
+            packet_hard: None,
+        }
+    }
 }
 
 impl Templates {
