@@ -1,5 +1,5 @@
 //! The machine and its steps.
-ghost use Rattle.std.specs.Prelude.{◌≡◌, ◌≢◌, ◌<◌, ◌≤◌, ◌^◌, ◌↔◌, length, IfOk, OnOk, OnErr, IsTrue};
+ghost use Rattle.std.specs.Prelude.{◌≡◌, ◌≢◌, ◌<◌, ◌≤◌, ◌^◌, ◌↔◌, length, IfOk, OnOk, OnErr, IsTrue, false};
 ghost use Rattle.xf_plain.specs.Built.{IsBuilt};
 ghost use Rattle.xf_plain.specs.Growth.{GrowsLittle};
 
@@ -96,6 +96,7 @@ impl Plain {
     ghost use Rattle.std.specs.Prelude.{[]};
     ghost use Rattle.xf_types.specs.Machine.{Machine, outcome};
     ghost use Rattle.xf_types.specs.Changes.{applied};
+    ghost use Rattle.xf_types.specs.History.{is_contended};
     ghost use Rattle.xf_types.specs.PolicyRules.{with_policy, policy_added_if_room, added_with_index, policy_add};
     ghost use Rattle.xf_types.specs.FlowRules.{flow_rule};
     ghost use Rattle.xf_types.specs.Steps.{step};
@@ -129,6 +130,7 @@ impl Plain {
         ensures answer { result ≢ Reply.NoMemory
             → outcome result self.new ≡ applied self.old (added_with_index self.old.shown spec.now) }
         ensures memory { result ≡ Reply.NoMemory → self.new ≡ self.old }
+        ensures settled { is_contended result ≡ false }
     {
         if spec.index != 0 && !indices::is_taken(self.policies.as_slice(), spec.index) {
             return match self.put(spec, spec.index) {
@@ -154,6 +156,7 @@ impl Plain {
         ensures answer { result ≢ Reply.NoMemory
             → outcome result self.new ≡ applied self.old (policy_added_if_room self.old.shown spec.now) }
         ensures memory { result ≡ Reply.NoMemory → self.new ≡ self.old }
+        ensures settled { is_contended result ≡ false }
     {
         if self.policies.len() >= self.max_policies as usize {
             return Reply::Full {
@@ -170,6 +173,7 @@ impl Plain {
         ensures answer { result ≢ Reply.NoMemory
             → outcome result self.new ≡ applied self.old (policy_add self.old.shown spec.now) }
         ensures memory { result ≡ Reply.NoMemory → self.new ≡ self.old }
+        ensures settled { is_contended result ≡ false }
     {
         if has_bad_index(spec) {
             return Reply::Invalid;
@@ -183,6 +187,7 @@ impl Plain {
     fn flow(&self, flow: &Flow) -> Reply
         ensures answer { outcome result self.now ≡ applied self.now (flow_rule self.now.shown flow.now) }
         ensures memory { result ≢ Reply.NoMemory }
+        ensures settled { is_contended result ≡ false }
     {
         match listing::find_first(self.policies.as_slice(), flow) {
             None => Reply::FlowNone,
@@ -196,13 +201,15 @@ impl Plain {
         }
     }
 
-    /// One step: the reply of the machine, and the machine after it. Where memory runs out the machine stays.
+    /// One step: the reply of the machine, and the machine after it. Where memory runs out the machine stays. No reply comes of
+    /// other threads, and the two counters that have no end of their own grow by one at most.
     pub fn step(&mut self, call: &Call) -> Reply
         requires built { IsBuilt call.now }
         requires numbers { self.old.shown.next_number < 2 ^ 63 }
         requires sids { self.old.shown.next_sid < 2 ^ 63 }
         ensures answer { result ≢ Reply.NoMemory → outcome result self.new ≡ step self.old call.now }
         ensures memory { result ≡ Reply.NoMemory → self.new ≡ self.old }
+        ensures settled { is_contended result ≡ false }
         ensures grows { GrowsLittle self.old.shown self.new.shown }
     {
         match call {

@@ -1,0 +1,9 @@
+pub mod Decimals
+pub mod Cuts
+pub mod Slashes
+pub mod Readings
+pub mod Writings
+pub mod WrittenGroups
+pub mod WrittenRuns
+pub mod CleanCuts
+pub mod PrefixReadings

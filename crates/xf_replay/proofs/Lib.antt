@@ -1,0 +1,6 @@
+pub mod AlikeLemmas
+pub mod BitLemmas
+pub mod Bitmap
+pub mod HistoryLemmas
+pub mod Runs
+pub mod Sets

@@ -1,0 +1,4 @@
+pub mod Replay
+pub mod Window
+pub mod History
+pub mod Laws

@@ -1,0 +1,28 @@
+use Rattle.std.proofs.Common.{◌≡◌, ◌∙◌, ap, sym, List, Ok}
+use Rattle.std.specs.Prelude.{map}
+use Rattle.xf_types.specs.Batch.{Line}
+use Rattle.xf_run.specs.declared.batch.CallLine.{CallLine}
+use Rattle.xf_run.specs.Batch.{batch_of}
+use Rattle.xf_run.specs.Shown.{lines_shown}
+use Rattle.xf_run.proofs.Outcomes.{batch_of-read, ends_all, reports_all, ran_out_all}
+use Rattle.xf_run.proofs.run.run_one.Goals as goal
+
+pub returns-clause-outcome : goal.returns-clause-outcome
+returns-clause-outcome g c =
+    reports_all (g.S.Source.left c.args.src.now) c.deref.result.now _ c.in-Err-Bad.bad _ _
+    (rw c.deref.ensures.value (batch_of-read _ _ c.in-Ok.input.items c.in-Ok.ensures.bytes c.in-Ok.ensures.end))
+    (rw c.in-Err-Bad.field-0-is at c.in-Err-Bad.ensures.batch)
+    c.report.ensures.reports
+
+pub returns-in-Err-Memory-read_batch-clause-outcome : goal.returns-in-Err-Memory-read_batch-clause-outcome
+returns-in-Err-Memory-read_batch-clause-outcome g c = ran_out_all (g.S.Source.left c.args.src.now) _
+
+pub returns-in-Err-Memory-clause-outcome : goal.returns-in-Err-Memory-clause-outcome
+returns-in-Err-Memory-clause-outcome g c = ran_out_all (g.S.Source.left c.args.src.now) _
+
+pub returns-in-Ok-read_batch-clause-outcome : goal.returns-in-Ok-read_batch-clause-outcome
+returns-in-Ok-read_batch-clause-outcome g c =
+    ends_all (g.S.Source.left c.args.src.now) c.deref.result.now _ c.deref-in-Ok-read_batch.result.now _ _
+    (rw c.deref.ensures.value (batch_of-read _ _ c.in-Ok.input.items c.in-Ok.ensures.bytes c.in-Ok.ensures.end))
+    (c.in-Ok-read_batch.ensures.batch ∙ ap (λ (x : List CallLine). Ok (lines_shown x)) (sym c.deref-in-Ok-read_batch.ensures.value))
+    c.run_lines.ensures.ends

@@ -1,0 +1,77 @@
+-- What each status of a run says.
+use Rattle.std.specs.Prelude.{◌≡◌, ◌⊎◌, ℕ, Bool, true, false, List, [], ◌∷◌, ◌++◌, Option, Result, Ok, Err}
+use Rattle.std.specs.Io.KnownBytes.{Appends}
+use Rattle.xf_types.specs.declared.call.Receipt.{Receipt}
+use Rattle.xf_types.specs.declared.status.Status.{Status}
+use Rattle.xf_types.specs.declared.status.Status.TheVariants as status
+use Rattle.xf_types.specs.Steps.{empty}
+use Rattle.xf_types.specs.Batch.{Line, IsShuffle}
+use Rattle.xf_types.specs.History.{IsLegalHistory, IsUncontended, has_refusal}
+use Rattle.xf_run.specs.declared.batch.BadLine.{BadLine}
+use Rattle.xf_run.specs.Batch.{batch_of}
+use Rattle.xf_run.specs.Text.{text_of, bad_line_text}
+
+-- a history of one thread: it is legal from the empty machine, its calls are those of the lines, each once and in order, and
+-- no reply comes of other threads; so each is what the lists answer there, or want of memory
+pub record IsHistoryOf (lines : List Line) (history : List Receipt) : Type 0 where
+  pub legal : IsLegalHistory (empty 4096 8192) history
+  pub shuffle : IsShuffle ((lines ∷ []) ∷ []) (history ∷ [])
+  pub uncontended : IsUncontended history
+
+-- all lines were answered: the text has grown by that of a history of them
+pub record Answered (lines : List Line) (refused : Bool) (old new : Option (List ℕ)) : Type 0 where
+  pub history : List Receipt
+  pub is_history : IsHistoryOf lines history
+  pub text : Appends old new (text_of history)
+  pub refusals : has_refusal history ≡ refused
+
+-- the text has grown by the front of a text
+pub record PartOf (whole : List ℕ) (old new : Option (List ℕ)) : Type 0 where
+  pub front : List ℕ
+  pub more : List ℕ
+  pub is_front : front ++ more ≡ whole
+  pub text : Appends old new front
+
+-- a history of the first of these lines, up to some line
+pub record IsHistoryOfFirst (lines : List Line) (history : List Receipt) : Type 0 where
+  pub first : List Line
+  pub rest : List Line
+  pub is_front : first ++ rest ≡ lines
+  pub is_history : IsHistoryOf first history
+
+-- the text has grown by a front of that of a history of the first lines
+pub record IsCutOff (lines : List Line) (old new : Option (List ℕ)) : Type 0 where
+  pub history : List Receipt
+  pub is_history : IsHistoryOfFirst lines history
+  pub part : PartOf (text_of history) old new
+
+-- the text has grown by that of a history of the first lines, whole
+pub record IsCutBetween (lines : List Line) (old new : Option (List ℕ)) : Type 0 where
+  pub history : List Receipt
+  pub is_history : IsHistoryOfFirst lines history
+  pub text : Appends old new (text_of history)
+
+-- a write failed: a front of the batch's text stands, or of the text of its first bad line
+abbrev pub WriteFailed : Result (List Line) BadLine → Option (List ℕ) → Option (List ℕ) → Type 0
+WriteFailed (Ok lines) old new = IsCutOff lines old new
+WriteFailed (Err bad) old new = PartOf (bad_line_text bad.line bad.reason) old new
+
+-- memory ran out: whole lines of the batch's text stand, or nothing where a line is bad
+abbrev pub MemoryRanOut : Result (List Line) BadLine → Option (List ℕ) → Option (List ℕ) → Type 0
+MemoryRanOut (Ok lines) old new = IsCutBetween lines old new
+MemoryRanOut (Err bad) old new = Appends old new []
+
+-- by the bytes of the input, what the status says of the batch and of the text before and after
+abbrev pub Outcome : Status → List ℕ → Option (List ℕ) → Option (List ℕ) → Type 0
+Outcome status.Done input old new = (lines : List Line) × (batch_of input ≡ Ok lines) × Answered lines false old new
+Outcome status.Refusals input old new = (lines : List Line) × (batch_of input ≡ Ok lines) × Answered lines true old new
+Outcome status.Usage input old new = ⊥
+Outcome (status.BadLine line reason) input old new =
+    (batch_of input ≡ Err (record { line = line; reason = reason })) × Appends old new (bad_line_text line reason)
+Outcome status.ReadFault input old new = Appends old new []
+Outcome status.WriteFault input old new = WriteFailed (batch_of input) old new
+Outcome status.NoMemory input old new = MemoryRanOut (batch_of input) old new
+
+-- all was read and answered
+abbrev pub IsEnd : Status → Type 0
+IsEnd s = (s ≡ status.Done) ⊎ (s ≡ status.Refusals)

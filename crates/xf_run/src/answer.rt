@@ -1,0 +1,62 @@
+//! One line, answered.
+ghost use Rattle.std.specs.Prelude.{◌≡◌, ◌≤◌, ◌<◌, ◌^◌, [], IfOk, IsErrOf};
+ghost use Rattle.std.specs.Io.KnownBytes.{Appends};
+ghost use Rattle.xf_io.specs.Causes.{Rose};
+ghost use Rattle.xf_plain.specs.Built.{IsBuilt};
+ghost use Rattle.xf_plain.specs.Growth.{GrowsLittle};
+ghost use Rattle.xf_run.specs.Progress.{Answers, Stops};
+ghost use Rattle.xf_run.specs.declared.answer.AnswerFault.TheVariants.{Memory, Write};
+
+use crate::batch::CallLine;
+use crate::output::write_line;
+use crate::print::print_answer;
+use xf_io::{Failed, Sink};
+use xf_plain::Plain;
+use xf_types::NoMemory;
+
+#[derive(Debug, Drop)]
+pub enum AnswerFault {
+    Memory,
+    Write,
+}
+
+impl From<NoMemory> for AnswerFault {
+    ghost from_gives = { λ _ e. e ≡ Memory };
+
+    fn from(_e: NoMemory) -> AnswerFault {
+        AnswerFault::Memory
+    }
+}
+
+impl From<Failed> for AnswerFault {
+    ghost from_gives = { λ _ e. e ≡ Write };
+
+    fn from(_e: Failed) -> AnswerFault {
+        AnswerFault::Write
+    }
+}
+
+/// Answers a line, and says whether the reply is a refusal. The buffer is for the text of the reply.
+pub fn answer<K: Sink>(
+    machine: &mut Plain,
+    line: &CallLine,
+    buffer: &mut Vec<u8>,
+    out: &mut K,
+) -> Result<bool, AnswerFault>
+    requires built { IsBuilt line.now.call }
+    requires numbers { machine.old.shown.next_number < 2 ^ 63 }
+    requires sids { machine.old.shown.next_sid < 2 ^ 63 }
+    ensures ok { IfOk result (λ refused. Answers machine.old machine.new line.now refused (K.text out.old) (K.text out.new)) }
+    ensures memory { IsErrOf result AnswerFault.Memory → Appends (K.text out.old) (K.text out.new) [] }
+    ensures write { IsErrOf result AnswerFault.Write
+        → Stops machine.old machine.new line.now (K.text out.old) (K.text out.new) }
+    ensures grows { GrowsLittle machine.old.shown machine.new.shown }
+    ensures later { K.faults out.old ≤ K.faults out.new }
+    ensures cause { IsErrOf result AnswerFault.Write → Rose (K.faults out.old) (K.faults out.new) }
+{
+    let reply = machine.step(&line.call);
+    buffer.clear();
+    print_answer(buffer, line.line, &reply)?;
+    write_line(out, buffer)?;
+    Ok(reply.is_refusal())
+}
