@@ -61,7 +61,7 @@ GrowsLittle-added m n spec r done memory =
     elim (memory_or_not r) [
       | inl e ↦ subst (λ (k : Machine). GrowsLittle m.shown k.shown) (sym (memory e)) (record { numbers = omega arith; sids = omega arith })
       | inr h ↦
-      subst (λ (s : Shown). GrowsLittle m.shown s)
-      (sym (ap (λ (o : Outcome). o.machine.shown) (done h) ∙ machine_after-shown m (policy_add m.shown spec).change))
-      (little-add m.shown spec).grows
+          subst (λ (s : Shown). GrowsLittle m.shown s)
+          (sym (ap (λ (o : Outcome). o.machine.shown) (done h) ∙ machine_after-shown m (policy_add m.shown spec).change))
+          (little-add m.shown spec).grows
     ]

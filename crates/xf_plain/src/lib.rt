@@ -4,5 +4,7 @@
 mod indices;
 mod listing;
 mod plain;
+#[cfg(test)]
+mod tests;
 
 pub use plain::Plain;

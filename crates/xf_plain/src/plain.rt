@@ -3,8 +3,7 @@ ghost use Rattle.std.specs.Prelude.{◌≡◌, ◌≢◌, ◌<◌, ◌≤◌, �
 ghost use Rattle.xf_plain.specs.Built.{IsBuilt};
 ghost use Rattle.xf_plain.specs.Growth.{GrowsLittle};
 
-use crate::indices;
-use crate::listing;
+use crate::{indices, listing};
 use std::alloc::Global;
 use std::marker::Model;
 use xf_types::{Action, Call, Flow, NoMemory, Path, Policy, PolicySpec, Reply};

@@ -40,12 +40,14 @@ pub Told-more : (n i : ℕ) (m end next : Machine) (ls : List CallLine) (rs : Li
     → i ≡ n + length rs → Told n m ls rs end → MayAnswer end next l.call reply
     → Told n m (ls ++ l ∷ []) (rs ++ receipt_of i l reply ∷ []) next
 Told-more n i m end next [] [] l reply e told may =
-    let at : i ≡ n = omega arith in
-    (record {
-      after = next;
-      receipt = ap (λ (k : ℕ). receipt_of k l reply) at;
-      may = subst (λ (k : Machine). MayAnswer k next l.call reply) (sym told) may;
-    }, refl)
+    let at : i ≡ n = omega arith in (
+      record {
+        after = next;
+        receipt = ap (λ (k : ℕ). receipt_of k l reply) at;
+        may = subst (λ (k : Machine). MayAnswer k next l.call reply) (sym told) may;
+      },
+      refl,
+    )
 Told-more n i m end next [] (r ∷ rs) l reply e told may = absurd told
 Told-more n i m end next (l' ∷ ls) [] l reply e told may = absurd told
 Told-more n i m end next (l' ∷ ls) (r ∷ rs) l reply e told may =
@@ -91,9 +93,10 @@ legal-from n t m end (l ∷ ls) (r ∷ rs) e told =
     let may : MayAnswer t.machine turn.after r.call r.reply =
     subst (λ (k : Machine). MayAnswer k turn.after r.call r.reply) (sym e)
     (subst (λ (c : Call). MayAnswer m turn.after c r.reply) (sym called) turn.may)
-    in
-    (may_stand t r r.reply may.settled (λ h. ap (λ (o : Outcome). o.reply) (may.answer h)),
-    legal-from (n + 1) (next_moment t r) turn.after end ls rs (machine_next-is t.machine turn.after r may) told.1)
+    in (
+      may_stand t r r.reply may.settled (λ h. ap (λ (o : Outcome). o.reply) (may.answer h)),
+      legal-from (n + 1) (next_moment t r) turn.after end ls rs (machine_next-is t.machine turn.after r may) told.1,
+    )
 
 number-is : (n : ℕ) (m : Machine) (l : CallLine) (r : Receipt) → Turn n m l r → r.number ≡ n
 number-is n m l r t = ap (λ (q : Receipt). q.number) t.receipt
@@ -105,9 +108,10 @@ increasing n m end (l ∷ ls) [] told = absurd told
 increasing n m end (l ∷ []) (r ∷ []) told = tt
 increasing n m end (l ∷ []) (r ∷ q ∷ rs) told = absurd told.1
 increasing n m end (l ∷ k ∷ ls) (r ∷ []) told = tt
-increasing n m end (l ∷ k ∷ ls) (r ∷ q ∷ rs) told =
-    (omega (arith, number-is n m l r told.0, number-is (n + 1) told.0.after k q told.1.0),
-    increasing (n + 1) told.0.after end (k ∷ ls) (q ∷ rs) told.1)
+increasing n m end (l ∷ k ∷ ls) (r ∷ q ∷ rs) told = (
+  omega (arith, number-is n m l r told.0, number-is (n + 1) told.0.after k q told.1.0),
+  increasing (n + 1) told.0.after end (k ∷ ls) (q ∷ rs) told.1,
+)
 
 settled : (n : ℕ) (m end : Machine) (ls : List CallLine) (rs : List Receipt) → Told n m ls rs end → IsUncontended rs
 settled n m end [] [] told = All-nil (λ r. is_contended r.reply ≡ false)
@@ -136,14 +140,17 @@ runs : (n : ℕ) (m end : Machine) (ls : List CallLine) (rs : List Receipt) → 
 runs n m end [] [] told = refl
 runs n m end [] (r ∷ rs) told = absurd told
 runs n m end (l ∷ ls) [] told = absurd told
-runs n m end (l ∷ ls) (r ∷ rs) told =
-    (r ∷ [], rs, refl,
-    record {
-      at_line = ap (λ (q : Receipt). q.at.line) told.0.receipt;
-      at_part = ap (λ (q : Receipt). q.at.part) told.0.receipt;
-      of_call = ap (λ (q : Receipt). q.call) told.0.receipt;
-    },
-    runs (n + 1) told.0.after end ls rs told.1)
+runs n m end (l ∷ ls) (r ∷ rs) told = (
+  r ∷ [],
+  rs,
+  refl,
+  record {
+    at_line = ap (λ (q : Receipt). q.at.line) told.0.receipt;
+    at_part = ap (λ (q : Receipt). q.at.part) told.0.receipt;
+    of_call = ap (λ (q : Receipt). q.call) told.0.receipt;
+  },
+  runs (n + 1) told.0.after end ls rs told.1,
+)
 
 -- what was told from the beginning is a history of the lines
 pub IsHistoryOf-told : (end : Machine) (ls : List CallLine) (rs : List Receipt) → Told 0 (empty 4096 8192) ls rs end

@@ -14,3 +14,6 @@ mod words;
 
 pub use program::top;
 pub use run::run_one;
+
+#[cfg(test)]
+mod tests;
