@@ -28,13 +28,9 @@ pub fn written_laws()
 
 /// A number is read where it is written in decimal, and a text is cut at the first such byte.
 pub fn number_laws()
-    ensures number {
-        (max n : ℕ) (word : List ℕ) → max < 2 ^ 64
-        → (number_of max word ≡ Some n) ↔ ((word ≡ decimal n) × (n ≤ max))
-    }
-    ensures cut {
-        (byte : ℕ) (text : List ℕ) (parts : List ℕ × List ℕ)
-        → (cut_at byte text ≡ Some parts) ↔ ((text ≡ parts.0 ++ byte ∷ parts.1) × All (λ c. c ≢ byte) parts.0)
-    }
+    ensures number { (max n : ℕ) (word : List ℕ) → max < 2 ^ 64
+        → (number_of max word ≡ Some n) ↔ ((word ≡ decimal n) × (n ≤ max)) }
+    ensures cut { (byte : ℕ) (text : List ℕ) (parts : List ℕ × List ℕ)
+        → (cut_at byte text ≡ Some parts) ↔ ((text ≡ parts.0 ++ byte ∷ parts.1) × All (λ c. c ≢ byte) parts.0) }
     ensures uncut { (byte : ℕ) (text : List ℕ) → (cut_at byte text ≡ None) ↔ All (λ c. c ≢ byte) text }
 {}
