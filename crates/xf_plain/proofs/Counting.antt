@@ -1,5 +1,5 @@
 -- Adding a policy raises the counters of policy numbers and of state ids by one at most.
-use Rattle.std.proofs.Common.{arith, ◌≡◌, ◌≢◌, ◌⊎◌, inl, inr, ℕ, ◌+◌, ◌*◌, ◌≤◌, ◌&&◌, ◌==◌, not, Bool, true, false, cond, ap, sym, subst, refl, length, ◌∙◌}
+use Rattle.std.proofs.Common.{arith, ◌≡◌, ◌≢◌, ◌⊎◌, inl, inr, ◌+◌, ◌*◌, ◌&&◌, ◌==◌, not, Bool, true, false, cond, ap, sym, subst, refl, length, ◌∙◌}
 use Rattle.std.specs.Prelude.{Option, None, Some, nat_le}
 use Rattle.xf_types.specs.declared.call.Reply.{Reply}
 use Rattle.xf_types.specs.declared.call.Reply.TheVariants.{NoMemory, Invalid, PolicyExists, DoneIndex}
@@ -9,7 +9,7 @@ use Rattle.xf_types.specs.Counters.{next_in}
 use Rattle.xf_types.specs.Same.{dir_number}
 use Rattle.xf_types.specs.Machine.{Machine, Shown, Outcome, outcome}
 use Rattle.xf_types.specs.Changes.{Answer, answer, stays, applied, shown_after, machine_after, Change, Stays, InPlace, LeaveThen}
-use Rattle.xf_types.specs.PolicyRules.{policy_add, policy_added_unless_found, policy_added_if_room, added_with_index, policy_same_as, is_bad_index, full_of_policies, is_index_taken, with_policy, free_number, last_index}
+use Rattle.xf_types.specs.PolicyRules.{policy_add, policy_added_unless_found, added_with_index, policy_same_as, is_bad_index, full_of_policies, is_index_taken, with_policy, free_number, last_index}
 use Rattle.xf_plain.specs.Growth.{GrowsLittle}
 
 -- an answer raises them by one at most

@@ -1,5 +1,5 @@
 -- A flow that a policy without templates allows.
-use Rattle.std.proofs.Common.{◌≡◌, List, [], ◌∷◌, Bool, true, false, cond, refl, sym, All}
+use Rattle.std.proofs.Common.{◌≡◌, List, [], ◌∷◌, Bool, true, false, cond, refl, All}
 use Rattle.std.specs.Prelude.{find, Some, None}
 use Rattle.std.proofs.lemmas.List.Elements.{All-head, All-tail}
 use Rattle.xf_types.specs.declared.network.Dir.{Dir}

@@ -1,5 +1,5 @@
 -- The search for a free number.
-use Rattle.std.proofs.Common.{◌≡◌, ℕ, zero, suc, Bool, true, false, refl}
+use Rattle.std.proofs.Common.{◌≡◌, ℕ, suc, Bool, true, refl}
 use Rattle.xf_types.specs.Counters.{first_free, next_in}
 
 -- a number that is taken is passed

@@ -1,7 +1,7 @@
 -- From the bytes that were read to the bytes of the input.
-use Rattle.std.proofs.Common.{◌≡◌, ℕ, ◌+◌, ◌<◌, ◌≤◌, List, [], ◌++◌, length, take, Option, None, Some, Result, Ok, Err, refl, sym, ap, ◌∙◌, append-nil, arith, inl, inr}
+use Rattle.std.proofs.Common.{◌≡◌, ℕ, ◌+◌, ◌<◌, ◌≤◌, List, [], ◌++◌, length, Option, None, Some, Result, Ok, Err, ap, ◌∙◌, append-nil, arith, inl, inr}
 use Rattle.std.specs.Prelude.{IfSome}
-use Rattle.std.specs.Io.KnownBytes.{Appends, Consumes, IsAtEnd}
+use Rattle.std.specs.Io.KnownBytes.{Consumes, IsAtEnd}
 use Rattle.std.proofs.KnownBytes.{Appends-nil}
 use Rattle.std.proofs.lemmas.Bool.{cases_lt}
 use Rattle.std.proofs.lemmas.List.{take-append-le}
@@ -15,7 +15,6 @@ use Rattle.xf_run.specs.Batch.{limit, batch_from, batch_of}
 use Rattle.xf_run.specs.Outcome.{Outcome, MemoryRanOut}
 use Rattle.xf_run.specs.Progress.{Ends, Reports}
 use Rattle.xf_run.specs.Shown.{lines_shown}
-use Rattle.xf_run.specs.Text.{bad_line_text}
 use Rattle.xf_run.proofs.Progressing.{cut_between_none}
 
 long_enough : (read more : List ℕ) → limit < length read → batch_of (read ++ more) ≡ batch_of read

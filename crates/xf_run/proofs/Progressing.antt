@@ -1,19 +1,18 @@
 -- How far a run has come, and what stands where it ends or is cut off.
-use Rattle.std.proofs.Common.{◌≡◌, ℕ, ◌+◌, ◌<◌, Bool, false, ◌||◌, List, [], ◌∷◌, ◌++◌, map, length, take, drop, get_or, refl, sym, ap, ◌∙◌, subst, append-nil, append_assoc, take-append-drop, arith}
+use Rattle.std.proofs.Common.{◌≡◌, ℕ, ◌+◌, ◌<◌, Bool, false, ◌||◌, List, [], ◌∷◌, ◌++◌, length, take, drop, get_or, refl, sym, ap, ◌∙◌, append-nil, append_assoc, take-append-drop, arith}
 use Rattle.std.specs.Prelude.{Option}
 use Rattle.std.specs.Io.KnownBytes.{Appends}
 use Rattle.std.proofs.KnownBytes.{Appends-trans, Appends-nil}
 use Rattle.std.proofs.lemmas.List.{take_more}
 use Rattle.xf_types.specs.declared.call.Receipt.{Receipt}
-use Rattle.xf_types.specs.declared.call.Reply.{Reply}
 use Rattle.xf_types.specs.Batch.{Line}
 use Rattle.xf_types.specs.Codes.{is_refusal_of}
 use Rattle.xf_types.specs.History.{has_refusal}
 use Rattle.xf_types.specs.Machine.{Machine}
 use Rattle.xf_types.specs.Steps.{empty}
 use Rattle.xf_run.specs.declared.batch.CallLine.{CallLine}
-use Rattle.xf_run.specs.Outcome.{Answered, IsHistoryOfFirst, IsCutOff, IsCutBetween, PartOf}
-use Rattle.xf_run.specs.Progress.{Answers, Stops, MayAnswer}
+use Rattle.xf_run.specs.Outcome.{Answered, IsHistoryOfFirst, IsCutOff, IsCutBetween}
+use Rattle.xf_run.specs.Progress.{Answers, Stops}
 use Rattle.xf_run.specs.Shown.{line_of, lines_shown}
 use Rattle.xf_run.specs.Text.{text_of, answer_text}
 use Rattle.xf_run.proofs.Histories.{text_of-push, has_refusal-push}

@@ -1,7 +1,7 @@
 -- What one thread does with its lines, told step by step: the receipts have the numbers from n on, and each reply is one that
 -- the machine may give where it stands.
-use Rattle.std.proofs.Common.{◌≡◌, ◌≢◌, ◌⊎◌, inl, inr, ℕ, zero, suc, ◌+◌, ◌<◌, Bool, true, false, cond, List, [], ◌∷◌, ◌++◌, map, filter, length, All, refl, sym, ap, ◌∙◌, subst, arith, add-one}
-use Rattle.std.specs.Prelude.{nat_lt, ◌==◌, Option}
+use Rattle.std.proofs.Common.{◌≡◌, ◌≢◌, ◌⊎◌, inl, inr, ℕ, zero, suc, ◌+◌, ◌<◌, true, false, List, [], ◌∷◌, ◌++◌, length, All, refl, sym, ap, subst, arith}
+use Rattle.std.specs.Prelude.{nat_lt, ◌==◌}
 use Rattle.std.proofs.lemmas.List.Elements.{All-nil, All-cons}
 use Rattle.std.proofs.lemmas.Bool.{lt-ltb, eq-eqb}
 use Rattle.xf_types.specs.declared.call.Call.{Call}
@@ -10,13 +10,13 @@ use Rattle.xf_types.specs.declared.call.Reply.{Reply}
 use Rattle.xf_types.specs.declared.call.Reply.TheVariants as reply
 use Rattle.xf_types.specs.Machine.{Machine, Outcome}
 use Rattle.xf_types.specs.Steps.{step}
-use Rattle.xf_types.specs.Batch.{Line, One, IsOf, IsRunOf, Runs, receipts_of, IsPhaseShuffle, IsShuffle}
-use Rattle.xf_types.specs.History.{is_contended, is_exception, Moment, beginning, machine_next, next_moment, MayReply, IsLegalFrom, IsIncreasing, IsLegalHistory, IsUncontended}
+use Rattle.xf_types.specs.Batch.{Runs, receipts_of}
+use Rattle.xf_types.specs.History.{is_contended, is_exception, Moment, beginning, machine_next, next_moment, MayReply, IsLegalFrom, IsIncreasing, IsUncontended}
 use Rattle.xf_types.specs.Steps.{empty}
 use Rattle.xf_run.specs.declared.batch.CallLine.{CallLine}
 use Rattle.xf_run.specs.Outcome.{IsHistoryOf}
 use Rattle.xf_run.specs.Progress.{MayAnswer}
-use Rattle.xf_run.specs.Shown.{line_of, lines_shown}
+use Rattle.xf_run.specs.Shown.{lines_shown}
 
 -- the receipt of a line's call
 abbrev pub receipt_of : ℕ → CallLine → Reply → Receipt

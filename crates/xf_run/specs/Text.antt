@@ -1,8 +1,7 @@
 -- What is written: a line for each receipt, and the text of a bad line or of words that are no command.
-use Rattle.std.specs.Prelude.{ℕ, ◌==◌, if◌then◌else◌, List, [], ◌∷◌, ◌++◌, codes}
+use Rattle.std.specs.Prelude.{ℕ, List, [], ◌∷◌, ◌++◌, codes}
 use Rattle.std.specs.List.{flat_map}
 use Rattle.std.specs.Fmt.{decimal}
-use Rattle.xf_types.specs.declared.call.Place.{Place}
 use Rattle.xf_types.specs.declared.call.Receipt.{Receipt}
 use Rattle.xf_types.specs.declared.call.Reply.{Reply}
 use Rattle.xf_types.specs.declared.call.Reply.TheVariants.{DoneIndex, FlowNone, FlowBlock, FlowAllow, PolicyExists, Invalid, Full, NoMemory}

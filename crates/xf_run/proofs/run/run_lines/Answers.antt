@@ -1,7 +1,6 @@
-use Rattle.std.proofs.Common.{◌≡◌, ◌+◌, length, take, arith, refl, subst}
+use Rattle.std.proofs.Common.{◌≡◌, take, arith, refl}
 use Rattle.std.proofs.lemmas.List.{take_all}
-use Rattle.xf_run.specs.declared.batch.CallLine.{CallLine}
-use Rattle.xf_run.proofs.Progressing.{SoFar, so_far_none, so_far_next, answered_all, cut_between, cut_within}
+use Rattle.xf_run.proofs.Progressing.{so_far_next, answered_all, cut_between, cut_within}
 use Rattle.xf_run.proofs.run.run_lines.Goals as goal
 
 pub lines-preserved : goal.lines-preserved

@@ -1,8 +1,5 @@
-use Rattle.std.proofs.Common.{◌≡◌, ◌∙◌, ap, sym, List, Ok}
-use Rattle.std.specs.Prelude.{map}
-use Rattle.xf_types.specs.Batch.{Line}
+use Rattle.std.proofs.Common.{◌∙◌, ap, sym, List, Ok}
 use Rattle.xf_run.specs.declared.batch.CallLine.{CallLine}
-use Rattle.xf_run.specs.Batch.{batch_of}
 use Rattle.xf_run.specs.Shown.{lines_shown}
 use Rattle.xf_run.proofs.Outcomes.{batch_of-read, ends_all, reports_all, ran_out_all}
 use Rattle.xf_run.proofs.run.run_one.Goals as goal

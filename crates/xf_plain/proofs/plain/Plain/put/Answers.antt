@@ -1,4 +1,4 @@
-use Rattle.std.proofs.Common.{arith, ap, length, ◌≡◌, ◌<◌, [], ◌∙◌, false, subst, sym}
+use Rattle.std.proofs.Common.{ap, length, ◌≡◌, ◌<◌, [], ◌∙◌, false, subst, sym}
 use Rattle.xf_types.specs.declared.policy.Policy.{Policy}
 use Rattle.xf_types.specs.declared.policy.PolicySpec.{PolicySpec}
 use Rattle.xf_types.specs.Machine.{Machine}

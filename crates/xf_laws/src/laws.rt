@@ -1,0 +1,76 @@
+//! Laws of the machine.
+ghost use Rattle.xf_laws.specs.AcceptLaws.{AcceptLaws};
+ghost use Rattle.xf_laws.specs.FirstPolicyLaws.{FirstPolicyLaws};
+ghost use Rattle.xf_laws.specs.FreeLaws.{FreeLaws};
+ghost use Rattle.xf_laws.specs.LaterLaws.{LaterLaws};
+ghost use Rattle.xf_laws.specs.StepLaws.{OneStateLaws, ShownLaws, StepLaws};
+ghost use Rattle.xf_laws.specs.LookupLaws.{LookupLaws};
+ghost use Rattle.xf_laws.specs.MachineLaws.{MachineLaws};
+ghost use Rattle.xf_laws.specs.MoveLaws.{MoveLaws};
+ghost use Rattle.xf_laws.specs.OwnLaws.{OwnLaws};
+ghost use Rattle.xf_laws.specs.TestLaws.{EqualityLaws, TestLaws};
+
+/// A packet or an output reads the shown part and one own part, and changes no other.
+pub fn one_state()
+    ensures { OneStateLaws }
+{}
+
+/// An answer by the shown part asks no own part.
+pub fn shown_answers()
+    ensures { ShownLaws }
+{}
+
+/// A refused call changes nothing, a reply that doesn't move leaves what is shown, and the moves say what the others do.
+pub fn steps()
+    ensures { StepLaws }
+{}
+
+/// Own parts follow their states.
+pub fn own_parts()
+    ensures { OwnLaws }
+{}
+
+/// A number that is given is free.
+pub fn free_numbers()
+    ensures { FreeLaws }
+{}
+
+/// What holds of every machine holds of the empty one, and each step keeps it.
+pub fn machines()
+    ensures { MachineLaws }
+{}
+
+/// The first policy of a flow applies, and none before it does.
+pub fn first_policies()
+    ensures { FirstPolicyLaws }
+{}
+
+/// The tests of equality are true exactly where the two values are equal.
+pub fn equalities()
+    ensures { EqualityLaws }
+{}
+
+/// The other tests are true exactly where their facts hold.
+pub fn tests()
+    ensures { TestLaws }
+{}
+
+/// Capacities stay, time never goes back, and a step uses at most one of the numbers that are given.
+pub fn later()
+    ensures { LaterLaws }
+{}
+
+/// The moves say what is shown after each call and after each legal history.
+pub fn moves()
+    ensures { MoveLaws }
+{}
+
+/// The latest match and the best state of a list are those that their names say.
+pub fn lookups()
+    ensures { LookupLaws }
+{}
+
+/// No state with a replay window accepts a number twice.
+pub fn acceptances()
+    ensures { AcceptLaws }
+{}
