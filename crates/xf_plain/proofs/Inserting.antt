@@ -1,10 +1,11 @@
 -- What holds of a policy list after a policy went to its place.
-use Rattle.std.proofs.Common.{arith, ◌≡◌, ℕ, ◌+◌, ◌<◌, List, [], ◌∷◌, length, take, drop, insert, All}
+use Rattle.std.proofs.Common.{arith, ◌≡◌, ℕ, ◌+◌, ◌<◌, List, [], ◌∷◌, length, take, drop, insert, All, suc, Bool, true, false, cond, not, ap, refl, ◌≤◌}
 use Rattle.std.specs.List.{position_or_len}
 use Rattle.std.proofs.lemmas.List.Edits.{length-insert}
-use Rattle.std.proofs.lemmas.List.Elements.{All-append, All-take, All-drop, All-cons}
+use Rattle.std.specs.Prelude.{find, is_some, Some}
+use Rattle.std.proofs.lemmas.List.Elements.{All-nil, All-head, All-tail, All-append, All-take, All-drop, All-cons}
 use Rattle.xf_types.specs.declared.policy.Policy.{Policy}
-use Rattle.xf_types.specs.PolicyList.{inserted, comes_after}
+use Rattle.xf_types.specs.PolicyList.{without, inserted, comes_after}
 use Rattle.xf_plain.specs.Kept.{IsKept}
 use Rattle.xf_plain.proofs.Places.{position_or_len-le}
 
@@ -31,3 +32,51 @@ IsKept-inserted p old new next_index max_policies kept room plain e = record {
   few = kept.few;
   plain = rw e (All-inserted (λ (q : Policy). q.spec.templates ≡ []) p old kept.plain plain);
 }
+
+-- ---- policies that leave
+
+-- no list is longer without some
+pub length-without : (test : Policy → Bool) (policies : List Policy) → length (without test policies) ≤ length policies
+length-without test [] = omega arith
+length-without test (p ∷ ps) =
+    elim (test p) as (λ b. length (cond (not b) (p ∷ without test ps) (without test ps)) ≤ suc (length ps))
+    [ true ↦ omega (arith, length-without test ps) | false ↦ omega (arith, length-without test ps) ]
+
+-- where one is found one at least leaves
+length-without_found : (test : Policy → Bool) (policies : List Policy) → is_some (find test policies) ≡ true
+    → length (without test policies) + 1 ≤ length policies
+length-without_found test [] = λ h. absurd cc
+length-without_found test (p ∷ ps) =
+    elim (test p)
+    as (λ b. is_some (cond b (Some p) (find test ps)) ≡ true → length (cond (not b) (p ∷ without test ps) (without test ps)) + 1 ≤ suc (length ps)) [
+      | true ↦ (λ h. omega (arith, length-without test ps))
+      | false ↦ (λ h. omega (arith, length-without_found test ps h))
+    ]
+
+-- what holds of each holds of those that stay
+All-without : (P : Policy → Type 0) (test : Policy → Bool) (policies : List Policy) → All P policies → All P (without test policies)
+All-without P test [] h = All-nil P
+All-without P test (p ∷ ps) h =
+    let rest = All-without P test ps (All-tail P p ps h) in
+    elim (test p) as (λ b. All P (cond (not b) (p ∷ without test ps) (without test ps)))
+    [ true ↦ rest | false ↦ All-cons P p (without test ps) (All-head P p ps h) rest ]
+
+-- a machine keeps what it keeps when policies leave
+pub IsKept-without : (test : Policy → Bool) (old new : List Policy) (next_index max_policies : ℕ)
+    → IsKept old next_index max_policies → new ≡ without test old → IsKept new next_index max_policies
+IsKept-without test old new next_index max_policies kept e = record {
+  index_low = kept.index_low;
+  index_high = kept.index_high;
+  room = omega (arith, kept.room, ap (length {A = Policy}) e, length-without test old);
+  few = kept.few;
+  plain = rw e (All-without (λ (q : Policy). q.spec.templates ≡ []) test old kept.plain);
+}
+
+-- and when a policy takes the place of one that is found
+pub IsKept-replaced : (test : Policy → Bool) (p : Policy) (old new : List Policy) (next_index max_policies : ℕ)
+    → IsKept old next_index max_policies → is_some (find test old) ≡ true → p.spec.templates ≡ []
+    → new ≡ inserted p (without test old) → IsKept new next_index max_policies
+IsKept-replaced test p old new next_index max_policies kept found plain e =
+    IsKept-inserted p (without test old) new next_index max_policies
+    (IsKept-without test old (without test old) next_index max_policies kept refl)
+    (omega (arith, kept.room, length-without_found test old found)) plain e

@@ -2,4 +2,4 @@ pub mod Places
 pub mod Inserting
 pub mod Numbers
 pub mod Flows
-pub mod Counting
+pub mod Growing

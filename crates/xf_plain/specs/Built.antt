@@ -1,10 +1,32 @@
 -- Which calls the plain machine has so far.
-use Rattle.std.specs.Prelude.{◌≡◌, []}
+use Rattle.std.specs.Prelude.{◌≡◌, Bool, true, false, ◌==◌, [], length}
 use Rattle.xf_types.specs.declared.call.Call.{Call}
 use Rattle.xf_types.specs.declared.call.Call.TheVariants as call
 
--- adding a policy without templates, and flows
+-- the calls on policies, where those that are added have no templates, and flows
 abbrev pub IsBuilt : Call → Type 0
 IsBuilt (call.PolicyAdd spec) = spec.templates ≡ []
+IsBuilt (call.PolicyUpdate spec) = spec.templates ≡ []
+IsBuilt (call.PolicyDelete key) = Unit {0}
+IsBuilt (call.PolicyGet key) = Unit {0}
+IsBuilt (call.PolicyDeleteAll filter) = Unit {0}
+IsBuilt (call.PolicyList filter) = Unit {0}
+IsBuilt (call.PolicyFlush ptype) = Unit {0}
+IsBuilt call.PolicyCount = Unit {0}
+IsBuilt (call.PolicySet set) = Unit {0}
 IsBuilt (call.Flow flow) = Unit {0}
 IsBuilt _ = ⊥
+
+-- the test of this
+abbrev pub is_built : Call → Bool
+is_built (call.PolicyAdd spec) = length spec.templates == 0
+is_built (call.PolicyUpdate spec) = length spec.templates == 0
+is_built (call.PolicyDelete key) = true
+is_built (call.PolicyGet key) = true
+is_built (call.PolicyDeleteAll filter) = true
+is_built (call.PolicyList filter) = true
+is_built (call.PolicyFlush ptype) = true
+is_built call.PolicyCount = true
+is_built (call.PolicySet set) = true
+is_built (call.Flow flow) = true
+is_built _ = false

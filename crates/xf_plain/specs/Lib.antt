@@ -1,3 +1,4 @@
 pub mod Built
 pub mod Growth
 pub mod Kept
+pub mod Replacing

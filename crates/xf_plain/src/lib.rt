@@ -1,10 +1,14 @@
 //! The plain machine: the databases as plain lists, and each call answered by scanning them.
 #![tactic(auto)]
 
+mod built;
+mod counting;
 mod indices;
 mod listing;
 mod plain;
+mod removing;
 #[cfg(test)]
 mod tests;
 
+pub use built::is_built;
 pub use plain::Plain;

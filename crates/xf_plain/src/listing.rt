@@ -1,9 +1,9 @@
-//! Walks over the policy list.
-ghost use Rattle.std.specs.Prelude.{◌≡◌, ◌≤◌, length, find, position, option_copied, OnOk, OnErr, IsOk, vec_capacity};
+//! Walks over the policy list: where a policy stands, and the policy that a flow gets.
+ghost use Rattle.std.specs.Prelude.{◌≡◌, ◌≤◌, ◌<◌, length, find, position, option_copied, OnOk, OnErr, IsOk, vec_capacity};
 ghost use Rattle.std.specs.List.{position_or_len};
-ghost use Rattle.xf_types.specs.PolicyList.{applies, comes_after, inserted, is_same, first_policy};
+ghost use Rattle.xf_types.specs.PolicyList.{applies, comes_after, inserted, is_same, has_key, first_policy};
 
-use xf_types::{Flow, NoMemory, Policy, PolicySpec, Ptype, same_policy};
+use xf_types::{Flow, NoMemory, Policy, PolicyKey, PolicySpec, Ptype, same_policy};
 
 /// Where the first policy stands that comes after this one.
 fn first_after(policies: &[Policy], policy: &Policy) -> Option<usize>
@@ -24,6 +24,7 @@ fn place_of(policies: &[Policy], policy: &Policy) -> usize
 pub fn insert(policies: &mut Vec<Policy>, policy: Policy) -> Result<(), NoMemory>
     ensures ok { OnOk result (policies.new.items ≡ inserted policy policies.old.items) }
     ensures err { OnErr result (policies.new.items ≡ policies.old.items) }
+    ensures succeeds { length policies.old.items < vec_capacity policies.old → IsOk result }
 {
     let place = place_of(policies.as_slice(), &policy);
     match policies.insert(place, policy) {
@@ -37,6 +38,13 @@ pub fn find_same<'a>(policies: &'a [Policy], spec: &PolicySpec) -> Option<&'a Po
     ensures { option_copied result ≡ find (λ p. is_same p.spec spec.now) policies.now }
 {
     policies.iter().find(|p| same_policy(&p.spec, spec))
+}
+
+/// The policy that the key names, if one is listed.
+pub fn find_key<'a>(policies: &'a [Policy], key: &PolicyKey) -> Option<&'a Policy>
+    ensures { option_copied result ≡ find (has_key key.now) policies.now }
+{
+    policies.iter().find(|p| key.names(p))
 }
 
 /// The first policy of this kind that applies to the flow.

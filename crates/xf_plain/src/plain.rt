@@ -3,6 +3,8 @@ ghost use Rattle.std.specs.Prelude.{◌≡◌, ◌≢◌, ◌<◌, ◌≤◌, �
 ghost use Rattle.xf_plain.specs.Built.{IsBuilt};
 ghost use Rattle.xf_plain.specs.Growth.{GrowsLittle};
 
+mod policies;
+
 use crate::{indices, listing};
 use std::alloc::Global;
 use std::marker::Model;
@@ -213,6 +215,14 @@ impl Plain {
     {
         match call {
             Call::PolicyAdd(spec) => self.policy_add(spec),
+            Call::PolicyUpdate(spec) => self.policy_update(spec),
+            Call::PolicyDelete(key) => self.policy_delete(key),
+            Call::PolicyGet(key) => self.policy_get(key),
+            Call::PolicyDeleteAll(filter) => self.policy_deleteall(filter),
+            Call::PolicyList(filter) => self.policy_list(filter),
+            Call::PolicyFlush(ptype) => self.policy_flush(*ptype),
+            Call::PolicyCount => self.policy_count(),
+            Call::PolicySet(set) => self.policy_set(set),
             Call::Flow(flow) => self.flow(flow),
             _ => unreachable!(),
         }

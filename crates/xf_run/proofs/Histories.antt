@@ -3,7 +3,7 @@ use Rattle.std.proofs.Common.{◌≡◌, ℕ, true, false, ◌||◌, List, [], �
 use Rattle.xf_types.specs.declared.call.Receipt.{Receipt}
 use Rattle.xf_types.specs.Codes.{is_refusal_of}
 use Rattle.xf_types.specs.History.{has_refusal}
-use Rattle.xf_run.specs.Text.{receipt_text, text_of}
+use Rattle.xf_print.specs.Receipts.{receipt_text, text_of}
 
 -- the text grows by the receipt's line
 pub text_of-push : (h : List Receipt) (r : Receipt) → text_of (h ++ r ∷ []) ≡ text_of h ++ receipt_text r

@@ -2,3 +2,5 @@ pub mod Told
 pub mod Histories
 pub mod Progressing
 pub mod Outcomes
+pub mod Parts
+pub mod Counts

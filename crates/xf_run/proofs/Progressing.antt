@@ -12,9 +12,9 @@ use Rattle.xf_types.specs.Machine.{Machine}
 use Rattle.xf_types.specs.Steps.{empty}
 use Rattle.xf_run.specs.declared.batch.CallLine.{CallLine}
 use Rattle.xf_run.specs.Outcome.{Answered, IsHistoryOfFirst, IsCutOff, IsCutBetween}
-use Rattle.xf_run.specs.Progress.{Answers, Stops}
+use Rattle.xf_run.specs.Progress.{Answers, Stops, at_line}
 use Rattle.xf_run.specs.Shown.{line_of, lines_shown}
-use Rattle.xf_run.specs.Text.{text_of, answer_text}
+use Rattle.xf_print.specs.Receipts.{text_of, answer_text}
 use Rattle.xf_run.proofs.Histories.{text_of-push, has_refusal-push}
 use Rattle.xf_run.proofs.Told.{Told, Told-more, receipt_of, IsHistoryOf-told}
 
@@ -38,7 +38,7 @@ so_far_more ls m n refused refusal old mid new l s a =
     record {
       history = h ++ r ∷ [];
       told = Told-more 0 (length h) (empty 4096 8192) m n ls h l a.reply (omega arith) s.told a.may;
-      text = rw (text_of-push h r) (Appends-trans old mid new (text_of h) (answer_text l.line a.reply) s.text a.text);
+      text = rw (text_of-push h r) (Appends-trans old mid new (text_of h) (answer_text (at_line l.line) a.reply) s.text a.text);
       refusals =
           has_refusal-push h r ∙ ap (λ (b : Bool). b || is_refusal_of a.reply) s.refusals
           ∙ ap (λ (b : Bool). refused || b) (sym a.refusal);

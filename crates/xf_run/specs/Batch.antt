@@ -1,40 +1,79 @@
 -- The batch of an input: the call lines of its one phase, or its first bad line.
-use Rattle.std.specs.Prelude.{ℕ, ◌+◌, ◌^◌, nat_lt, if◌then◌else◌, List, [], ◌∷◌, ◌++◌, length, take, Option, None, Some, Result, Ok, Err}
-use Rattle.std.specs.Option.{option_map}
+use Rattle.std.specs.Prelude.{ℕ, ◌+◌, ◌^◌, Bool, true, false, not, ◌&&◌, ◌||◌, nat_lt, nat_le, count_by, if◌then◌else◌, List, [], ◌∷◌, ◌++◌, length, take, Result, Ok, Err}
 use Rattle.xf_types.specs.declared.call.Call.{Call}
-use Rattle.xf_types.specs.declared.status.Reason.TheVariants.{Input, Unsupported}
-use Rattle.xf_types.specs.Batch.{Line, One}
+use Rattle.xf_types.specs.declared.call.Call.TheVariants as call
+use Rattle.xf_types.specs.declared.status.Reason.{Reason}
+use Rattle.xf_types.specs.declared.status.Reason.TheVariants as reason
+use Rattle.xf_types.specs.Batch.{Line, One, Send}
+use Rattle.xf_plain.specs.Built.{is_built}
+use Rattle.xf_read.specs.declared.reader.Item.{Item}
+use Rattle.xf_read.specs.declared.reader.Item.TheVariants as item
+use Rattle.xf_read.specs.Items.{line_item}
+use Rattle.xf_read.specs.LogicalLines.{lines_of, physical_lines}
 use Rattle.xf_run.specs.declared.batch.BadLine.{BadLine}
-use Rattle.xf_run.specs.Lines.{Word, lines_of, are_plain, words_of}
-use Rattle.xf_run.specs.Calls.{call_of}
-
--- nothing, a call, or a bad line
-abbrev pub item_of : List Word → Option (Option Call)
-item_of [] = Some None
-item_of (w ∷ ws) = option_map Some (call_of (w ∷ ws))
-
--- what a line stands for
-unfoldable pub line_item : List ℕ → Option (Option Call)
-line_item line = if are_plain line then item_of (words_of line) else None
 
 -- how many bytes the input may have
 abbrev pub limit : ℕ
 limit = 2 ^ 20
 
--- a bad line ends the batch; else it goes on behind the call lines so far and the line's own
-abbrev pub with_item : List Line → ℕ → Option (Option Call) → (List Line → Result (List Line) BadLine)
-    → Result (List Line) BadLine
-with_item calls n None rest = Err (record { line = n; reason = Unsupported })
-with_item calls n (Some None) rest = rest calls
-with_item calls n (Some (Some call)) rest = rest (calls ++ One n call ∷ [])
+-- how many call lines a phase may have, and how many lists among them
+abbrev pub call_limit : ℕ
+call_limit = 16384
 
--- the call lines so far, and those of the lines from number n on, behind so many bytes: the first bad line decides
+abbrev pub list_limit : ℕ
+list_limit = 256
+
+-- the call lists records
+abbrev pub is_list : Call → Bool
+is_list (call.PolicyList filter) = true
+is_list (call.StateList filter) = true
+is_list _ = false
+
+-- the line lists records
+abbrev pub is_list_line : Line → Bool
+is_list_line (One n c) = is_list c
+is_list_line (Send n flow len) = false
+
+-- behind these call lines there is no more room in the phase for the call
+abbrev pub is_over : List Line → Call → Bool
+is_over calls c =
+    nat_le call_limit (length calls) || (is_list c && nat_le list_limit (count_by is_list_line calls))
+
+-- the line's own fault, or what it asks for. That it is long comes first, and that it passes the input's limit next
+abbrev pub judged : Bool → Result Item Reason → Result Item Reason
+judged over (Err reason.Long) = Err reason.Long
+judged true (Ok asked) = Err reason.Input
+judged true (Err other) = Err reason.Input
+judged false (Ok asked) = Ok asked
+judged false (Err other) = Err other
+
+-- the call lines behind what a line asks for: its call goes behind those so far
+abbrev pub with_item : List Line → ℕ → Item → Result (List Line) BadLine
+with_item calls n item.Nothing = Ok calls
+with_item calls n (item.One c) =
+    if not (is_built c) then Err (record { line = n; reason = reason.Unsupported })
+    else (if is_over calls c then Err (record { line = n; reason = reason.Phase }) else Ok (calls ++ One n c ∷ []))
+with_item calls n (item.Worker worker) = Err (record { line = n; reason = reason.Unsupported })
+with_item calls n item.Sync = Err (record { line = n; reason = reason.Unsupported })
+with_item calls n item.TickNow = Err (record { line = n; reason = reason.Unsupported })
+with_item calls n (item.Send flow len) = Err (record { line = n; reason = reason.Unsupported })
+
+-- the call lines behind a line
+abbrev pub with_line : List Line → ℕ → Result Item Reason → Result (List Line) BadLine
+with_line calls n (Err why) = Err (record { line = n; reason = why })
+with_line calls n (Ok asked) = with_item calls n asked
+
+-- a bad line ends the batch
+abbrev pub unless_bad : Result (List Line) BadLine → (List Line → Result (List Line) BadLine) → Result (List Line) BadLine
+unless_bad (Err bad) rest = Err bad
+unless_bad (Ok calls) rest = rest calls
+
+-- the call lines so far, and those of the logical lines from physical line n on, behind so many bytes: the first bad line decides
 abbrev pub batch_from : List Line → ℕ → ℕ → List (List ℕ) → Result (List Line) BadLine
 batch_from calls n before [] = Ok calls
 batch_from calls n before (line ∷ lines) =
-    if nat_lt limit (before + length line)
-    then Err (record { line = n; reason = Input })
-    else with_item calls n (line_item line) (λ more. batch_from more (n + 1) (before + length line) lines)
+    unless_bad (with_line calls n (judged (nat_lt limit (before + length line)) (line_item line)))
+    (λ more. batch_from more (n + physical_lines line) (before + length line) lines)
 
 -- no byte past the first one that is too many is looked at, and the line that holds this one is bad
 unfoldable pub batch_of : List ℕ → Result (List Line) BadLine

@@ -6,7 +6,7 @@ use Rattle.std.specs.Io.KnownBytes.{Appends}
 use Rattle.xf_types.specs.declared.status.Status.{Status}
 use Rattle.xf_types.specs.declared.status.Status.TheVariants.{Done, Refusals, Usage, BadLine, ReadFault, WriteFault, NoMemory}
 use Rattle.xf_run.specs.Outcome.{PartOf}
-use Rattle.xf_run.specs.Text.{usage_text}
+use Rattle.xf_run.specs.Usage.{usage_text}
 
 -- the words are `one` and no more
 abbrev pub is_command : List (String Global) → Bool

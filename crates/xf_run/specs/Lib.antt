@@ -1,10 +1,7 @@
-pub mod Lines
-pub mod Values
-pub mod Calls
 pub mod Batch
 pub mod Shown
 pub mod Reading
-pub mod Text
+pub mod Usage
 pub mod Outcome
 pub mod Progress
 pub mod Command

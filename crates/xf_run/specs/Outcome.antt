@@ -9,7 +9,8 @@ use Rattle.xf_types.specs.Batch.{Line, IsShuffle}
 use Rattle.xf_types.specs.History.{IsLegalHistory, IsUncontended, has_refusal}
 use Rattle.xf_run.specs.declared.batch.BadLine.{BadLine}
 use Rattle.xf_run.specs.Batch.{batch_of}
-use Rattle.xf_run.specs.Text.{text_of, bad_line_text}
+use Rattle.xf_print.specs.Receipts.{text_of}
+use Rattle.xf_print.specs.BadLine.{bad_line_text}
 
 -- a history of one thread: it is legal from the empty machine, its calls are those of the lines, each once and in order, and
 -- no reply comes of other threads; so each is what the lists answer there, or want of memory

@@ -2,6 +2,7 @@
 use Rattle.std.specs.Prelude.{◌≡◌, ◌≢◌, ℕ, Bool, true, false, List, [], Option}
 use Rattle.std.specs.Io.KnownBytes.{Appends}
 use Rattle.xf_types.specs.declared.call.Call.{Call}
+use Rattle.xf_types.specs.declared.call.Place.{Place}
 use Rattle.xf_types.specs.declared.call.Reply.{Reply}
 use Rattle.xf_types.specs.declared.call.Reply.TheVariants.{NoMemory}
 use Rattle.xf_types.specs.declared.status.Status.{Status}
@@ -14,7 +15,12 @@ use Rattle.xf_run.specs.declared.batch.BadLine.{BadLine as Bad}
 use Rattle.xf_run.specs.declared.batch.CallLine.{CallLine}
 use Rattle.xf_run.specs.Outcome.{Answered, IsCutOff, IsCutBetween, PartOf}
 use Rattle.xf_run.specs.Shown.{lines_shown}
-use Rattle.xf_run.specs.Text.{answer_text, bad_line_text}
+use Rattle.xf_print.specs.Receipts.{answer_text}
+use Rattle.xf_print.specs.BadLine.{bad_line_text}
+
+-- the place of a line that has one part
+abbrev pub at_line : ℕ → Place
+at_line n = record { line = n; part = 0 }
 
 -- the reply is the machine's, or want of memory, which leaves the machine; it never comes of other threads
 pub record MayAnswer (before after : Machine) (c : Call) (reply : Reply) : Type 0 where
@@ -27,13 +33,13 @@ pub record Answers (before after : Machine) (l : CallLine) (refused : Bool) (old
   pub reply : Reply
   pub may : MayAnswer before after l.call reply
   pub refusal : refused ≡ is_refusal_of reply
-  pub text : Appends old new (answer_text l.line reply)
+  pub text : Appends old new (answer_text (at_line l.line) reply)
 
 -- a line was answered, and a front of the reply's line was taken
 pub record Stops (before after : Machine) (l : CallLine) (old new : Option (List ℕ)) : Type 0 where
   pub reply : Reply
   pub may : MayAnswer before after l.call reply
-  pub part : PartOf (answer_text l.line reply) old new
+  pub part : PartOf (answer_text (at_line l.line) reply) old new
 
 -- after the lines were read
 abbrev pub Ends : Status → List CallLine → Option (List ℕ) → Option (List ℕ) → Type 0

@@ -1,12 +1,7 @@
--- What vectors show.
-use Rattle.std.specs.Prelude.{ℕ, List, map}
-use Rattle.std.specs.Global.{Vec}
+-- What code keeps, as the definitions see it.
+use Rattle.std.specs.Prelude.{List, map}
 use Rattle.xf_types.specs.Batch.{Line, One}
 use Rattle.xf_run.specs.declared.batch.CallLine.{CallLine}
-
--- the words without where they lie in memory
-abbrev pub shown : List (Vec ℕ) → List (List ℕ)
-shown ws = map (λ w. w.items) ws
 
 -- a call with the number of its line
 abbrev pub line_of : CallLine → Line

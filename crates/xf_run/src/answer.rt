@@ -8,11 +8,11 @@ ghost use Rattle.xf_run.specs.Progress.{Answers, Stops};
 ghost use Rattle.xf_run.specs.declared.answer.AnswerFault.TheVariants.{Memory, Write};
 
 use crate::batch::CallLine;
-use crate::output::write_line;
-use crate::print::print_answer;
+use crate::output::write_lines;
 use xf_io::{Failed, Sink};
 use xf_plain::Plain;
-use xf_types::NoMemory;
+use xf_print::print_answer;
+use xf_types::{NoMemory, Place};
 
 #[derive(Debug, Drop)]
 pub enum AnswerFault {
@@ -56,7 +56,11 @@ pub fn answer<K: Sink>(
 {
     let reply = machine.step(&line.call);
     buffer.clear();
-    print_answer(buffer, line.line, &reply)?;
-    write_line(out, buffer)?;
+    let at = Place {
+        line: line.line,
+        part: 0,
+    };
+    print_answer(buffer, at, &reply)?;
+    write_lines(out, buffer)?;
     Ok(reply.is_refusal())
 }

@@ -1,16 +1,16 @@
 //! The call lines of an input, or its first bad line.
-ghost use Rattle.std.specs.Prelude.{◌≡◌, ◌+◌, ◌≤◌, [], ◌∷◌, ◌++◌, length, take, All, IfOk, IfErr, IfSome, OnOk, min};
+ghost use Rattle.std.specs.Prelude.{◌≡◌, ◌+◌, ◌≤◌, [], ◌∷◌, ◌++◌, length, take, count_by, All, IfOk, IfErr, OnOk, min, Ok};
 ghost use Rattle.xf_types.specs.Batch.{One};
 ghost use Rattle.xf_plain.specs.Built.{IsBuilt};
-ghost use Rattle.xf_run.specs.Batch.{line_item, batch_of, limit};
-ghost use Rattle.xf_run.specs.Reading.{GivesItem, GivesBatch};
-ghost use Rattle.xf_run.specs.Shown.{lines_shown};
-ghost use Rattle.xf_run.specs.declared.batch.LineFault.TheVariants.{Memory as LineMemory};
+ghost use Rattle.xf_read.specs.Items.{line_item};
+ghost use Rattle.xf_run.specs.Batch.{is_list, is_list_line, is_over, judged, with_item, batch_of, limit};
+ghost use Rattle.xf_run.specs.Reading.{GivesJudged, GivesLines, GivesBatch};
+ghost use Rattle.xf_run.specs.Shown.{line_of, lines_shown};
 ghost use Rattle.xf_run.specs.declared.batch.BatchFault.TheVariants.{Memory as BatchMemory};
 
-use crate::calls::read_call;
-use crate::lines::{is_plain_line, take_line, words};
-use std::alloc::{AllocError, AllocFailed, Global};
+use std::alloc::{AllocFailed, Global};
+use xf_plain::is_built;
+use xf_read::{Item, ReadFault, Reader, count_physical, split_line};
 use xf_types::{Call, Reason};
 
 /// A call with the number of its line.
@@ -25,20 +25,6 @@ pub struct CallLine {
 pub struct BadLine {
     pub line: u64,
     pub reason: Reason,
-}
-
-#[derive(Debug, Drop)]
-pub enum LineFault {
-    Memory,
-    Unsupported,
-}
-
-impl From<AllocError> for LineFault {
-    ghost from_gives = { λ _ e. e ≡ LineMemory };
-
-    fn from(_e: AllocError) -> LineFault {
-        LineFault::Memory
-    }
 }
 
 #[derive(Debug, Drop)]
@@ -58,22 +44,58 @@ impl<T: Drop> From<AllocFailed<T>> for BatchFault {
 /// How many bytes the input may have.
 pub const LIMIT: usize = 1 << 20;
 
-#[tactic(auto, unfolding(crate::specs::Batch::line_item))]
-fn read_line(alloc: Global, line: &[u8]) -> Result<Option<Call>, LineFault>
-    ensures item { GivesItem result (line_item line.now) }
-    ensures built { IfOk result (λ item. IfSome item IsBuilt) }
+/// How many call lines a phase may have, and how many lists among them.
+const CALLS: usize = 16_384;
+
+const LISTS: usize = 256;
+
+fn lists(call: &Call) -> bool
+    ensures { result ≡ is_list call.now }
 {
-    if !is_plain_line(line) {
-        return Err(LineFault::Unsupported);
+    matches!(call, Call::PolicyList(_) | Call::StateList(_))
+}
+
+fn lists_line(line: &CallLine) -> bool
+    ensures { result ≡ is_list_line (line_of line.now) }
+{
+    lists(&line.call)
+}
+
+fn count_lists(lines: &[CallLine]) -> usize
+    ensures { result ≡ count_by is_list_line (lines_shown lines.now) }
+{
+    lines.iter().filter(|l| lists_line(l)).count()
+}
+
+/// Whether the phase has no more room for the call.
+fn is_full(lines: &[CallLine], call: &Call) -> bool
+    ensures { result ≡ is_over (lines_shown lines.now) call.now }
+{
+    lines.len() >= CALLS || lists(call) && count_lists(lines) >= LISTS
+}
+
+/// What a line asks for, or its fault. That the line is long comes before that it passes the input's limit.
+fn judge(reader: &mut Reader, line: &[u8], number: u64, over: bool) -> Result<Item, BatchFault>
+    ensures { GivesJudged result number (judged over (line_item line.now)) }
+{
+    match reader.line(line, number) {
+        Err(ReadFault::NoMemory) => Err(BatchFault::Memory),
+        Err(
+            ReadFault::Bad {
+                line: _,
+                reason: Reason::Long,
+            },
+        ) => Err(bad(number, Reason::Long)),
+        _ if over => Err(bad(number, Reason::Input)),
+        Err(ReadFault::Bad { line: _, reason }) => Err(bad(number, reason)),
+        Ok(item) => Ok(item),
     }
-    let words = words(alloc, line)?;
-    if words.is_empty() {
-        return Ok(None);
-    }
-    match read_call(&words) {
-        Some(call) => Ok(Some(call)),
-        None => Err(LineFault::Unsupported),
-    }
+}
+
+fn bad(line: u64, reason: Reason) -> BatchFault
+    ensures { result ≡ BatchFault.Bad (record { line = line; reason = reason }) }
+{
+    BatchFault::Bad(BadLine { line, reason })
 }
 
 /// Puts a call line at the end.
@@ -102,6 +124,28 @@ fn front(input: &[u8]) -> &[u8]
     }
 }
 
+/// Puts what a line asks for behind the call lines so far, or refuses the line.
+fn put_item(lines: &mut Vec<CallLine>, number: u64, item: Item) -> Result<(), BatchFault>
+    requires { All (λ l. IsBuilt l.call) lines.old.items }
+    ensures item { GivesLines result lines.new (with_item (lines_shown lines.old.items) number item) }
+    ensures count { OnOk result (length lines.new.items ≤ length lines.old.items + 1) }
+    ensures built { All (λ l. IsBuilt l.call) lines.new.items }
+{
+    match item {
+        Item::Nothing => Ok(()),
+        Item::One(call) => {
+            if !is_built(&call) {
+                return Err(bad(number, Reason::Unsupported));
+            }
+            if is_full(lines, &call) {
+                return Err(bad(number, Reason::Phase));
+            }
+            push_line(lines, number, call)
+        }
+        _ => Err(bad(number, Reason::Unsupported)),
+    }
+}
+
 /// The call lines of an input, or its first bad line.
 #[tactic(auto, unfolding(crate::specs::Batch::batch_of))]
 pub fn read_batch(alloc: Global, input: &[u8]) -> Result<Vec<CallLine>, BatchFault>
@@ -110,30 +154,20 @@ pub fn read_batch(alloc: Global, input: &[u8]) -> Result<Vec<CallLine>, BatchFau
     ensures count { IfOk result (λ v. length v.items ≤ limit) }
     ensures built { IfOk result (λ v. All (λ l. IsBuilt l.call) v.items) }
 {
+    let mut reader = match Reader::new(alloc) {
+        Ok(reader) => reader,
+        Err(_) => return Err(BatchFault::Memory),
+    };
     let mut rest = front(input);
     let mut lines = Vec::new(alloc);
     let mut number: u64 = 1;
     let mut before: usize = 0;
     'reading: while !rest.is_empty() {
-        let (line, after) = take_line(rest);
-        if before + line.len() > LIMIT {
-            return Err(BatchFault::Bad(BadLine {
-                line: number,
-                reason: Reason::Input,
-            }));
-        }
-        match read_line(alloc, line) {
-            Err(LineFault::Memory) => return Err(BatchFault::Memory),
-            Err(LineFault::Unsupported) => {
-                return Err(BatchFault::Bad(BadLine {
-                    line: number,
-                    reason: Reason::Unsupported,
-                }));
-            }
-            Ok(None) => {}
-            Ok(Some(call)) => push_line(&mut lines, number, call)?,
-        }
-        number += 1;
+        let (line, after) = split_line(rest);
+        let over = before + line.len() > LIMIT;
+        let item = judge(&mut reader, line, number, over)?;
+        put_item(&mut lines, number, item)?;
+        number += count_physical(line) as u64;
         before += line.len();
         rest = after;
     }

@@ -3,14 +3,10 @@
 
 mod answer;
 mod batch;
-mod calls;
 mod input;
-mod lines;
 mod output;
-mod print;
 mod program;
 mod run;
-mod words;
 
 pub use program::top;
 pub use run::run_one;

@@ -24,7 +24,7 @@ fn is_one(words: &[String]) -> bool
 }
 
 /// Writes the usage line.
-#[tactic(auto, unfolding(crate::specs::Text::usage_text))]
+#[tactic(auto, unfolding(crate::specs::Usage::usage_text))]
 fn refuse<K: Sink>(out: &mut K) -> Status
     ensures refuses { Refuses result (K.text out.old) (K.text out.new) }
     ensures write_fault { result ≡ Status.WriteFault → Rose (K.faults out.old) (K.faults out.new) }

@@ -11,10 +11,10 @@ use crate::answer::{AnswerFault, answer};
 use crate::batch::{BadLine, BatchFault, CallLine, read_batch};
 use crate::input::{InputFault, read_input};
 use crate::output::write_line;
-use crate::print::print_bad_line;
 use std::alloc::Global;
 use xf_io::{Clock, Failed, Sink, Source};
 use xf_plain::Plain;
+use xf_print::print_bad_line;
 use xf_types::{NoMemory, Status};
 
 /// Answers the lines in their order, each by a line of its own.

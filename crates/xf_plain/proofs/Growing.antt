@@ -1,0 +1,105 @@
+-- Adding a policy raises the counters of policy numbers and of state ids by one at most.
+use Rattle.std.proofs.Common.{arith, ◌≡◌, ◌≢◌, ◌⊎◌, inl, inr, ◌+◌, ◌*◌, ◌&&◌, ◌==◌, not, Bool, true, false, cond, ap, sym, subst, refl, length, ◌∙◌}
+use Rattle.std.specs.Prelude.{Option, None, Some, nat_le, find}
+use Rattle.xf_types.specs.declared.call.Reply.{Reply}
+use Rattle.xf_types.specs.declared.call.Reply.TheVariants.{NoMemory, Invalid, PolicyExists, NoEntry, DoneIndex}
+use Rattle.xf_types.specs.declared.policy.Policy.{Policy}
+use Rattle.xf_types.specs.declared.policy.PolicySpec.{PolicySpec}
+use Rattle.xf_types.specs.declared.policy.PolicyKey.{PolicyKey}
+use Rattle.xf_types.specs.PolicyList.{has_key}
+use Rattle.xf_types.specs.Counters.{next_in}
+use Rattle.xf_types.specs.Same.{dir_number}
+use Rattle.xf_types.specs.Machine.{Machine, Shown, Outcome, outcome}
+use Rattle.xf_types.specs.Changes.{Answer, answer, stays, applied, shown_after, machine_after, Change, Stays, InPlace, LeaveThen}
+use Rattle.xf_types.specs.PolicyRules.{policy_update, policy_replaced_or_added, policy_delete, policy_deleted, is_bad_key, policy_add, policy_added_unless_found, added_with_index, policy_same_as, is_bad_index, full_of_policies, is_index_taken, with_policy, free_number, last_index}
+use Rattle.xf_plain.specs.Growth.{GrowsLittle}
+
+-- an answer raises them by one at most
+record Little (s : Shown) (a : Answer) : Type 0 where
+  grows : GrowsLittle s (shown_after s a.change)
+
+little-stays : (s : Shown) (r : Reply) → Little s (stays r)
+little-stays s r = record { grows = record { numbers = omega arith; sids = omega arith } }
+
+little-if : (s : Shown) (b : Bool) (x y : Answer) → Little s x → Little s y → Little s (cond b x y)
+little-if s b x y h k = elim b as (λ t. Little s (cond t x y)) [ true ↦ h | false ↦ k ]
+
+little-with_index : (s : Shown) (spec : PolicySpec) → Little s (added_with_index s spec)
+little-with_index s spec =
+    let k = free_number s spec.dir in
+    let index = 8 * k + dir_number spec.dir in
+    little-if s (not (spec.index == 0) && not (is_index_taken s spec.index))
+    (answer (DoneIndex spec.index) (InPlace (with_policy s spec spec.index s.policies)))
+    (answer (DoneIndex index) (InPlace (with_policy (record s { next_index = next_in last_index k }) spec index s.policies)))
+    (record { grows = record { numbers = omega arith; sids = omega arith } })
+    (record { grows = record { numbers = omega arith; sids = omega arith } })
+
+little-unless_found : (s : Shown) (spec : PolicySpec) (o : Option Policy) → Little s (policy_added_unless_found s spec o)
+little-unless_found s spec (Some old) = little-stays s (PolicyExists old.index)
+little-unless_found s spec None =
+    little-if s (nat_le s.max_policies (length s.policies)) (full_of_policies s) (added_with_index s spec)
+    (record { grows = record { numbers = omega arith; sids = omega arith } }) (little-with_index s spec)
+
+little-add : (s : Shown) (spec : PolicySpec) → Little s (policy_add s spec)
+little-add s spec =
+    little-if s (is_bad_index spec) (stays Invalid) (policy_added_unless_found s spec (policy_same_as s spec))
+    (little-stays s Invalid) (little-unless_found s spec (policy_same_as s spec))
+
+-- the shown part after an answer asks no own part
+machine_after-shown : (m : Machine) (c : Change) → (machine_after m c).shown ≡ shown_after m.shown c
+machine_after-shown m Stays = refl
+machine_after-shown m (InPlace shown) = refl
+machine_after-shown m (LeaveThen shown leaves new) = refl
+
+memory_or_not : (r : Reply) → (r ≡ NoMemory) ⊎ (r ≢ NoMemory)
+memory_or_not NoMemory = inl refl
+memory_or_not _ = inr (λ e. absurd cc)
+
+little-update : (s : Shown) (spec : PolicySpec) → Little s (policy_update s spec)
+little-update s spec =
+    let same = policy_same_as s spec in
+    little-if s (is_bad_index spec) (stays Invalid) (policy_replaced_or_added s spec same) (little-stays s Invalid)
+    (elim same as (λ o. Little s (policy_replaced_or_added s spec o)) [
+      | Some old ↦ record { grows = record { numbers = omega arith; sids = omega arith } }
+      | None ↦ little-if s (nat_le s.max_policies (length s.policies)) (full_of_policies s) (added_with_index s spec)
+          (record { grows = record { numbers = omega arith; sids = omega arith } }) (little-with_index s spec)
+    ])
+
+little-delete : (s : Shown) (key : PolicyKey) → Little s (policy_delete s key)
+little-delete s key =
+    let found = find (has_key key) s.policies in
+    little-if s (is_bad_key key) (stays Invalid) (policy_deleted s key found) (little-stays s Invalid)
+    (elim found as (λ o. Little s (policy_deleted s key o)) [
+      | Some old ↦ record { grows = record { numbers = omega arith; sids = omega arith } }
+      | None ↦ little-stays s NoEntry
+    ])
+
+grows-answered : (m n : Machine) (a : Answer) (r : Reply) → (r ≢ NoMemory → outcome r n ≡ applied m a) → (r ≡ NoMemory → n ≡ m)
+    → Little m.shown a → GrowsLittle m.shown n.shown
+grows-answered m n a r done memory little =
+    elim (memory_or_not r) [
+      | inl e ↦ subst (λ (k : Machine). GrowsLittle m.shown k.shown) (sym (memory e)) (record { numbers = omega arith; sids = omega arith })
+      | inr h ↦
+          subst (λ (s : Shown). GrowsLittle m.shown s)
+          (sym (ap (λ (o : Outcome). o.machine.shown) (done h) ∙ machine_after-shown m a.change))
+          little.grows
+    ]
+
+-- whatever the adding of a policy was answered
+pub GrowsLittle-added : (m n : Machine) (spec : PolicySpec) (r : Reply)
+    → (r ≢ NoMemory → outcome r n ≡ applied m (policy_add m.shown spec)) → (r ≡ NoMemory → n ≡ m)
+    → GrowsLittle m.shown n.shown
+GrowsLittle-added m n spec r done memory = grows-answered m n (policy_add m.shown spec) r done memory (little-add m.shown spec)
+
+-- or its update
+pub GrowsLittle-updated : (m n : Machine) (spec : PolicySpec) (r : Reply)
+    → (r ≢ NoMemory → outcome r n ≡ applied m (policy_update m.shown spec)) → (r ≡ NoMemory → n ≡ m)
+    → GrowsLittle m.shown n.shown
+GrowsLittle-updated m n spec r done memory =
+    grows-answered m n (policy_update m.shown spec) r done memory (little-update m.shown spec)
+
+-- or its deletion
+pub GrowsLittle-deleted : (m n : Machine) (key : PolicyKey) (r : Reply) → outcome r n ≡ applied m (policy_delete m.shown key)
+    → r ≢ NoMemory → GrowsLittle m.shown n.shown
+GrowsLittle-deleted m n key r done memory =
+    grows-answered m n (policy_delete m.shown key) r (λ _. done) (λ e. absurd (memory e)) (little-delete m.shown key)

@@ -1,0 +1,2 @@
+pub mod HexValues
+pub mod SelectorLaws

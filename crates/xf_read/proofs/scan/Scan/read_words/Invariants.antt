@@ -1,0 +1,10 @@
+use Rattle.std.proofs.Common.{◌≡◌, ◌≤◌, drop}
+use Rattle.xf_read.specs.Lines.{scanned_from, line_start}
+use Rattle.xf_read.specs.Shown.{scanned}
+use Rattle.xf_read.proofs.scan.Scan.read_words.Given as goal
+
+abbrev pub invariant-bytes : goal.invariant-bytes
+invariant-bytes l = record {
+  so_far : scanned_from (scanned l.self) (drop l.byte-index l.bytes) ≡ scanned_from line_start l.bytes;
+  short : l.self.length ≤ 4096;
+}

@@ -1,0 +1,42 @@
+-- What a line asks for, or its fault.
+use Rattle.std.specs.Prelude.{◌≡◌, ℕ, List, [], ◌∷◌, Result, Ok, Err}
+use Rattle.xf_types.specs.declared.status.Reason.{Reason}
+use Rattle.xf_read.specs.declared.fault.ReadFault.{ReadFault}
+use Rattle.xf_read.specs.declared.fault.ReadFault.TheVariants.{Bad, NoMemory}
+use Rattle.xf_read.specs.declared.head.HeadTable.TheVariants.{Start}
+use Rattle.xf_read.specs.declared.reader.Item.{Item}
+use Rattle.xf_read.specs.declared.reader.Item.TheVariants.{Nothing, One}
+use Rattle.xf_read.specs.Calls.{call_of}
+use Rattle.xf_read.specs.Grammar.{◌>>=◌, fields_of}
+use Rattle.xf_read.specs.Heads.{head_of}
+use Rattle.xf_read.specs.Lexing.{Word}
+use Rattle.xf_read.specs.Lines.{words_of}
+use Rattle.xf_read.specs.Tables.{tables_of}
+
+-- a line without words is nothing; else its head says which words may follow, and what they ask for
+unfoldable pub words_item : List Word → Result Item Reason
+words_item [] = Ok Nothing
+words_item (w ∷ ws) = do
+  found ← head_of Start (w ∷ ws)
+  fields ← fields_of (tables_of found.0) found.1
+  asked ← call_of found.0 fields
+  Ok (One asked)
+
+-- a logical line's own faults come before those of its words
+unfoldable pub line_item : List ℕ → Result Item Reason
+line_item bytes = words_of bytes >>= words_item
+
+-- a fault has the line's number
+abbrev pub numbered : ℕ → Result Item Reason → Result Item ReadFault
+numbered number (Ok item) = Ok item
+numbered number (Err reason) = Err (Bad number reason)
+
+-- what a line stands for, by its bytes and its number
+abbrev pub item_of : List ℕ → ℕ → Result Item ReadFault
+item_of bytes number = numbered number (line_item bytes)
+
+-- the answer is what the line stands for, unless memory was refused
+abbrev pub GivesItem : Result Item ReadFault → Result Item ReadFault → Type 0
+GivesItem (Ok item) reading = reading ≡ Ok item
+GivesItem (Err (Bad line reason)) reading = reading ≡ Err (Bad line reason)
+GivesItem (Err NoMemory) reading = Unit {0}

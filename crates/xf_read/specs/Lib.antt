@@ -1,0 +1,17 @@
+pub mod Quotes
+pub mod Lexing
+pub mod Lines
+pub mod LogicalLines
+pub mod Shown
+pub mod Gives
+pub mod Keywords
+pub mod Tables
+pub mod Heads
+pub mod Numbers
+pub mod Grammar
+pub mod Seen
+pub mod Lookups
+pub mod Selectors
+pub mod Thresholds
+pub mod Calls
+pub mod Items

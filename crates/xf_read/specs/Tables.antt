@@ -1,0 +1,50 @@
+-- Which names, words and tables there are: the code's own tables.
+use Rattle.std.specs.Prelude.{List, []}
+use Rattle.xf_read.specs.declared.head.Head.{Head}
+use Rattle.xf_read.specs.declared.head.Head.TheVariants as head
+use Rattle.xf_read.specs.declared.row.Name.{Name}
+use Rattle.xf_read.specs.declared.row.Names.{Names}
+use Rattle.xf_read.specs.declared.row.Names.TheVariants as names
+use Rattle.xf_read.specs.declared.row.Row.{Row}
+use Rattle.xf_read.specs.declared.row.Table.{Table}
+use Rattle.xf_read.specs.declared.row.Table.TheVariants as table
+use Rattle.xf_read.specs.declared.tables.TheConstants as constant
+
+-- the names of a list
+abbrev pub names_of : Names → List Name
+names_of names.None = []
+names_of names.Dirs = constant.DIRS
+names_of names.Ptypes = constant.PTYPES
+names_of names.Actions = constant.ACTIONS
+names_of names.Protocols = constant.PROTOCOLS
+names_of names.Headers = constant.HEADERS
+names_of names.Anys = constant.ANYS
+
+-- the rows of a table
+abbrev pub rows_of : Table → List Row
+rows_of table.None = []
+rows_of table.Selector = constant.SELECTOR
+rows_of table.PolicySpec = constant.POLICY_SPEC
+rows_of table.PolicyKey = constant.POLICY_KEY
+rows_of table.PolicyFilter = constant.POLICY_FILTER
+rows_of table.PolicyKind = constant.POLICY_KIND
+rows_of table.Thresholds = constant.THRESHOLDS
+rows_of table.Flow = constant.FLOW
+rows_of table.Mask = constant.MASK
+rows_of table.PolicyFlags = constant.POLICY_FLAGS
+rows_of table.Limits = constant.LIMITS
+rows_of table.Refused = constant.REFUSED
+rows_of table.Unbuilt = constant.UNBUILT
+
+-- the tables of a line's own words
+abbrev pub tables_of : Head → List Table
+tables_of head.PolicyAdd = constant.SPEC_TABLES
+tables_of head.PolicyUpdate = constant.SPEC_TABLES
+tables_of head.PolicyDelete = constant.KEY_TABLES
+tables_of head.PolicyGet = constant.KEY_TABLES
+tables_of head.PolicyDeleteAll = constant.FILTER_TABLES
+tables_of head.PolicyList = constant.FILTER_TABLES
+tables_of head.PolicyFlush = constant.FLUSH_TABLES
+tables_of head.PolicyCount = []
+tables_of head.PolicySet = constant.SET_TABLES
+tables_of (head.Flow dir) = constant.FLOW_TABLES

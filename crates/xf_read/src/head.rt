@@ -1,0 +1,149 @@
+//! The heads of lines.
+ghost use Rattle.std.specs.Prelude.{◌≡◌};
+ghost use Rattle.xf_read.specs.Gives.{Reads};
+ghost use Rattle.xf_read.specs.Heads.{head_rows_of, head_row_in, head_of};
+ghost use Rattle.xf_read.specs.Shown.{shown};
+
+use crate::keyword::Keyword;
+use xf_types::{Dir, Reason};
+
+/// What kind of line it is.
+#[derive(Clone, Copy, Debug)]
+pub(crate) enum Head {
+    PolicyAdd,
+    PolicyUpdate,
+    PolicyDelete,
+    PolicyGet,
+    PolicyDeleteAll,
+    PolicyList,
+    PolicyFlush,
+    PolicyCount,
+    PolicySet,
+    Flow(Dir),
+}
+
+/// A word of a head: it leads to a table of further words, or ends the head.
+#[derive(Clone, Copy, Debug)]
+pub(crate) enum HeadRow {
+    Leads(Keyword, HeadTable),
+    Ends(Keyword, Head),
+    Unsupported(Keyword),
+}
+
+/// The words that may stand next in a head.
+#[derive(Clone, Copy, Debug)]
+pub(crate) enum HeadTable {
+    Start,
+    Xfrm,
+    Policy,
+    State,
+    Flow,
+}
+
+pub(crate) static START: [HeadRow; 7] = [
+    HeadRow::Leads(Keyword::Xfrm, HeadTable::Xfrm),
+    HeadRow::Leads(Keyword::Flow, HeadTable::Flow),
+    HeadRow::Unsupported(Keyword::Send),
+    HeadRow::Unsupported(Keyword::Packet),
+    HeadRow::Unsupported(Keyword::Tick),
+    HeadRow::Unsupported(Keyword::Worker),
+    HeadRow::Unsupported(Keyword::Sync),
+];
+
+pub(crate) static XFRM: [HeadRow; 3] = [
+    HeadRow::Leads(Keyword::Policy, HeadTable::Policy),
+    HeadRow::Leads(Keyword::State, HeadTable::State),
+    HeadRow::Unsupported(Keyword::Monitor),
+];
+
+// `del` is read as `delete`, and `show` and `ls` as `list`.
+pub(crate) static POLICY: [HeadRow; 14] = [
+    HeadRow::Ends(Keyword::Add, Head::PolicyAdd),
+    HeadRow::Ends(Keyword::Update, Head::PolicyUpdate),
+    HeadRow::Ends(Keyword::Delete, Head::PolicyDelete),
+    HeadRow::Ends(Keyword::Del, Head::PolicyDelete),
+    HeadRow::Ends(Keyword::Get, Head::PolicyGet),
+    HeadRow::Ends(Keyword::DeleteAll, Head::PolicyDeleteAll),
+    HeadRow::Ends(Keyword::List, Head::PolicyList),
+    HeadRow::Ends(Keyword::Show, Head::PolicyList),
+    HeadRow::Ends(Keyword::Ls, Head::PolicyList),
+    HeadRow::Ends(Keyword::Flush, Head::PolicyFlush),
+    HeadRow::Ends(Keyword::Count, Head::PolicyCount),
+    HeadRow::Ends(Keyword::Set, Head::PolicySet),
+    HeadRow::Unsupported(Keyword::SetDefault),
+    HeadRow::Unsupported(Keyword::GetDefault),
+];
+
+// None of these is built yet.
+pub(crate) static STATE: [HeadRow; 12] = [
+    HeadRow::Unsupported(Keyword::Add),
+    HeadRow::Unsupported(Keyword::Update),
+    HeadRow::Unsupported(Keyword::Delete),
+    HeadRow::Unsupported(Keyword::Del),
+    HeadRow::Unsupported(Keyword::Get),
+    HeadRow::Unsupported(Keyword::DeleteAll),
+    HeadRow::Unsupported(Keyword::List),
+    HeadRow::Unsupported(Keyword::Show),
+    HeadRow::Unsupported(Keyword::Ls),
+    HeadRow::Unsupported(Keyword::Flush),
+    HeadRow::Unsupported(Keyword::Count),
+    HeadRow::Unsupported(Keyword::AllocSpi),
+];
+
+pub(crate) static FLOW: [HeadRow; 3] = [
+    HeadRow::Ends(Keyword::In, Head::Flow(Dir::In)),
+    HeadRow::Ends(Keyword::Out, Head::Flow(Dir::Out)),
+    HeadRow::Ends(Keyword::Fwd, Head::Flow(Dir::Fwd)),
+];
+
+fn head_rows_in(table: HeadTable) -> &'static [HeadRow]
+    ensures { result.now ≡ head_rows_of table }
+{
+    match table {
+        HeadTable::Start => &START,
+        HeadTable::Xfrm => &XFRM,
+        HeadTable::Policy => &POLICY,
+        HeadTable::State => &STATE,
+        HeadTable::Flow => &FLOW,
+    }
+}
+
+impl HeadRow {
+    ghost use Rattle.xf_read.specs.Heads.{head_word};
+
+    fn word(self) -> Keyword
+        ensures { result ≡ head_word self }
+    {
+        match self {
+            HeadRow::Leads(word, _) => word,
+            HeadRow::Ends(word, _) => word,
+            HeadRow::Unsupported(word) => word,
+        }
+    }
+}
+
+fn find_head_row(rows: &[HeadRow], word: &[u8]) -> Option<HeadRow>
+    ensures { result ≡ head_row_in rows.now word.now }
+{
+    for row in rows {
+        if row.word().text() == word {
+            return Some(*row);
+        }
+    }
+    None
+}
+
+/// The head that the words begin with, from this table on, and the words after it.
+pub(crate) fn read_head(table: HeadTable, words: &[Vec<u8>]) -> Result<(Head, &[Vec<u8>]), Reason>
+    ensures { Reads (λ found. (found.0, shown found.1.now)) result (head_of table (shown words.now)) }
+{
+    match words {
+        [] => Err(Reason::Missing),
+        [first, rest @ ..] => match find_head_row(head_rows_in(table), first) {
+            Some(HeadRow::Leads(_, next)) => read_head(next, rest),
+            Some(HeadRow::Ends(_, head)) => Ok((head, rest)),
+            Some(HeadRow::Unsupported(_)) => Err(Reason::Unsupported),
+            None => Err(Reason::Word),
+        },
+    }
+}

@@ -1,0 +1,156 @@
+//! The values of a line's fields.
+ghost use Rattle.std.specs.Prelude.{◌≡◌, ◌<◌};
+ghost use Rattle.xf_read.specs.Lookups as found;
+
+use crate::row::{Field, Slot, Value};
+use xf_types::{Action, Addr, Dir, Prefix, Ptype, Reason};
+
+impl Slot {
+    ghost use Rattle.xf_read.specs.Lookups.{slot_number};
+
+    // A number for each slot, by which slots are compared.
+    fn number(self) -> u8
+        ensures { result ≡ slot_number self }
+    {
+        match self {
+            Slot::Src => 0,
+            Slot::Dst => 1,
+            Slot::Proto => 2,
+            Slot::SourcePort => 3,
+            Slot::DestPort => 4,
+            Slot::IcmpType => 5,
+            Slot::IcmpCode => 6,
+            Slot::Dir => 7,
+            Slot::Ptype => 8,
+            Slot::Action => 9,
+            Slot::Priority => 10,
+            Slot::Index => 11,
+            Slot::IfId => 12,
+            Slot::Mark => 13,
+            Slot::Mask => 14,
+            Slot::TimeSoft => 15,
+            Slot::TimeHard => 16,
+            Slot::UseSoft => 17,
+            Slot::UseHard => 18,
+            Slot::ByteSoft => 19,
+            Slot::ByteHard => 20,
+            Slot::PacketSoft => 21,
+            Slot::PacketHard => 22,
+            Slot::Local4 => 23,
+            Slot::Remote4 => 24,
+            Slot::Local6 => 25,
+            Slot::Remote6 => 26,
+        }
+    }
+}
+
+/// The value of a slot among the line's own fields.
+pub(crate) fn value_at(fields: &[Field], slot: Slot) -> Option<Value>
+    ensures { result ≡ found.value_at slot fields.now }
+{
+    for field in fields {
+        if field.group == 0 && field.slot.number() == slot.number() {
+            return Some(field.value);
+        }
+    }
+    None
+}
+
+pub(crate) fn has(fields: &[Field], slot: Slot) -> bool
+    ensures { result ≡ found.has slot fields.now }
+{
+    value_at(fields, slot).is_some()
+}
+
+/// Whether one of the slots was given.
+pub(crate) fn has_any(fields: &[Field], slots: &[Slot]) -> bool
+    ensures { result ≡ found.has_any slots.now fields.now }
+{
+    for slot in slots {
+        if has(fields, *slot) {
+            return true;
+        }
+    }
+    false
+}
+
+pub(crate) fn u8_at(fields: &[Field], slot: Slot) -> Option<u8>
+    ensures { result ≡ found.u8_at slot fields.now }
+{
+    match value_at(fields, slot) {
+        Some(Value::U8(x)) => Some(x),
+        _ => None,
+    }
+}
+
+pub(crate) fn u16_at(fields: &[Field], slot: Slot) -> Option<u16>
+    ensures { result ≡ found.u16_at slot fields.now }
+{
+    match value_at(fields, slot) {
+        Some(Value::U16(x)) => Some(x),
+        _ => None,
+    }
+}
+
+pub(crate) fn u32_at(fields: &[Field], slot: Slot) -> Option<u32>
+    ensures { result ≡ found.u32_at slot fields.now }
+{
+    match value_at(fields, slot) {
+        Some(Value::U32(x)) => Some(x),
+        _ => None,
+    }
+}
+
+pub(crate) fn u64_at(fields: &[Field], slot: Slot) -> Option<u64>
+    ensures { result ≡ found.u64_at slot fields.now }
+{
+    match value_at(fields, slot) {
+        Some(Value::U64(x)) => Some(x),
+        _ => None,
+    }
+}
+
+pub(crate) fn addr_at(fields: &[Field], slot: Slot) -> Option<Addr>
+    ensures { result ≡ found.addr_at slot fields.now }
+{
+    match value_at(fields, slot) {
+        Some(Value::Addr(x)) => Some(x),
+        _ => None,
+    }
+}
+
+pub(crate) fn prefix_at(fields: &[Field], slot: Slot) -> Option<Prefix>
+    ensures { result ≡ found.prefix_at_slot slot fields.now }
+{
+    match value_at(fields, slot) {
+        Some(Value::Prefix(x)) => Some(x),
+        _ => None,
+    }
+}
+
+pub(crate) fn dir_in(fields: &[Field]) -> Option<Dir>
+    ensures { result ≡ found.dir_in fields.now }
+{
+    match value_at(fields, Slot::Dir) {
+        Some(Value::Dir(x)) => Some(x),
+        _ => None,
+    }
+}
+
+pub(crate) fn ptype_in(fields: &[Field]) -> Option<Ptype>
+    ensures { result ≡ found.ptype_in fields.now }
+{
+    match value_at(fields, Slot::Ptype) {
+        Some(Value::Ptype(x)) => Some(x),
+        _ => None,
+    }
+}
+
+pub(crate) fn action_in(fields: &[Field]) -> Option<Action>
+    ensures { result ≡ found.action_in fields.now }
+{
+    match value_at(fields, Slot::Action) {
+        Some(Value::Action(x)) => Some(x),
+        _ => None,
+    }
+}

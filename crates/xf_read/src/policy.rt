@@ -1,0 +1,143 @@
+//! From fields to policies: what is added, what is named, and what is filtered.
+ghost use Rattle.std.specs.Prelude.{◌≡◌, []};
+ghost use Rattle.xf_read.specs.Calls as rule;
+
+use crate::lookup::{
+    action_in, dir_in, has_any, prefix_at, ptype_in, u8_at, u32_at, u64_at, value_at,
+};
+use crate::row::{Field, Slot};
+use crate::selector::{
+    dest_port, given_end, judge_families, judge_ports, read_selector, source_port,
+};
+use xf_types::{
+    Action, Dir, Limits, Mark, PolicyFilter, PolicyKey, PolicySpec, Ptype, Reason, Templates,
+};
+
+// What may not stand beside an index: it makes two policies the same.
+pub(crate) static SAME_SLOTS: [Slot; 10] = [
+    Slot::Src,
+    Slot::Dst,
+    Slot::Proto,
+    Slot::SourcePort,
+    Slot::DestPort,
+    Slot::IcmpType,
+    Slot::IcmpCode,
+    Slot::Ptype,
+    Slot::Mark,
+    Slot::IfId,
+];
+
+fn mark_by(value: Option<u32>, mask: Option<u32>) -> Mark
+    ensures { result ≡ rule.mark_by value mask }
+{
+    match value {
+        None => Mark { value: 0, mask: 0 },
+        Some(value) => Mark {
+            value,
+            mask: mask.unwrap_or(u32::MAX),
+        },
+    }
+}
+
+fn mark_of(fields: &[Field]) -> Mark
+    ensures { result ≡ rule.mark_of fields.now }
+{
+    mark_by(u32_at(fields, Slot::Mark), u32_at(fields, Slot::Mask))
+}
+
+#[tactic(auto, unfolding(crate::specs::Calls::limits_of))]
+fn limits_of(fields: &[Field]) -> Limits
+    ensures { result ≡ rule.limits_of fields.now }
+{
+    Limits {
+        time_soft: u64_at(fields, Slot::TimeSoft).unwrap_or(0),
+        time_hard: u64_at(fields, Slot::TimeHard).unwrap_or(0),
+        use_soft: u64_at(fields, Slot::UseSoft).unwrap_or(0),
+        use_hard: u64_at(fields, Slot::UseHard).unwrap_or(0),
+        byte_soft: u64_at(fields, Slot::ByteSoft),
+        byte_hard: u64_at(fields, Slot::ByteHard),
+        packet_soft: u64_at(fields, Slot::PacketSoft),
+        packet_hard: u64_at(fields, Slot::PacketHard),
+    }
+}
+
+/// The policy that a line asks for.
+#[tactic(auto, unfolding(crate::specs::Calls::spec_of))]
+pub(crate) fn read_spec(fields: &[Field]) -> Result<PolicySpec, Reason>
+    ensures { result ≡ rule.spec_of fields.now }
+{
+    let dir = dir_in(fields).ok_or(Reason::Missing)?;
+    let sel = read_selector(fields)?;
+    Ok(PolicySpec {
+        dir,
+        ptype: ptype_in(fields).unwrap_or(Ptype::Main),
+        sel,
+        mark: mark_of(fields),
+        if_id: u32_at(fields, Slot::IfId).unwrap_or(0),
+        priority: u32_at(fields, Slot::Priority).unwrap_or(0),
+        action: action_in(fields).unwrap_or(Action::Allow),
+        index: u32_at(fields, Slot::Index).unwrap_or(0),
+        limits: limits_of(fields),
+        templates: Templates::none(),
+    })
+}
+
+fn index_key(dir: Dir, index: u32, fields: &[Field]) -> Result<PolicyKey, Reason>
+    ensures { result ≡ rule.index_key dir index fields.now }
+{
+    if has_any(fields, &SAME_SLOTS) {
+        return Err(Reason::Mixed);
+    }
+    Ok(PolicyKey::Index { dir, index })
+}
+
+#[tactic(auto, unfolding(crate::specs::Calls::same_key))]
+fn same_key(dir: Dir, fields: &[Field]) -> Result<PolicyKey, Reason>
+    ensures { result ≡ rule.same_key dir fields.now }
+{
+    let sel = read_selector(fields)?;
+    Ok(PolicyKey::Same {
+        dir,
+        ptype: ptype_in(fields).unwrap_or(Ptype::Main),
+        sel,
+        mark: mark_of(fields),
+        if_id: u32_at(fields, Slot::IfId).unwrap_or(0),
+    })
+}
+
+/// The policy that a line names.
+#[tactic(auto, unfolding(crate::specs::Calls::key_of))]
+pub(crate) fn read_key(fields: &[Field]) -> Result<PolicyKey, Reason>
+    ensures { result ≡ rule.key_of fields.now }
+{
+    let dir = dir_in(fields).ok_or(Reason::Missing)?;
+    match u32_at(fields, Slot::Index) {
+        Some(index) => index_key(dir, index, fields),
+        None => same_key(dir, fields),
+    }
+}
+
+/// The conditions that a line gives.
+#[tactic(auto, unfolding(crate::specs::Calls::filter_of))]
+pub(crate) fn read_filter(fields: &[Field]) -> Result<PolicyFilter, Reason>
+    ensures { result ≡ rule.filter_of fields.now }
+{
+    let sport = source_port(fields)?;
+    let dport = dest_port(fields)?;
+    let src = prefix_at(fields, Slot::Src);
+    let dst = prefix_at(fields, Slot::Dst);
+    judge_families(&src, &dst)?;
+    judge_ports(fields)?;
+    Ok(PolicyFilter {
+        dir: dir_in(fields),
+        ptype: ptype_in(fields),
+        action: action_in(fields),
+        priority: u32_at(fields, Slot::Priority),
+        index: u32_at(fields, Slot::Index),
+        src: given_end(value_at(fields, Slot::Src), dst),
+        dst: given_end(value_at(fields, Slot::Dst), src),
+        proto: u8_at(fields, Slot::Proto),
+        sport,
+        dport,
+    })
+}

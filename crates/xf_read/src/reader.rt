@@ -1,0 +1,88 @@
+//! The reader of lines.
+ghost use Rattle.std.specs.Prelude.{◌≡◌};
+ghost use Rattle.xf_read.specs.Gives.{Gives};
+ghost use Rattle.xf_read.specs.Items.{words_item, line_item};
+ghost use Rattle.xf_read.specs.Shown.{shown};
+
+use crate::call::read_call;
+use crate::fault::{LineFault, ReadFault};
+use crate::fields::Progress;
+use crate::head::{HeadTable, read_head};
+use crate::scan::Scan;
+use crate::tables::tables_in;
+use std::alloc::Global;
+use xf_types::{Call, Flow, NoMemory};
+
+/// What a line asks for.
+#[derive(PartialEq, Debug, Drop)]
+pub enum Item {
+    /// The line has no words.
+    Nothing,
+    /// The lines that follow are of this worker.
+    Worker(u32),
+    /// The phase ends.
+    Sync,
+    /// Time goes on to what the clock says.
+    TickNow,
+    One(Call),
+    /// A flow, and for each state of its path one packet of so many bytes.
+    Send { flow: Flow, len: u32 },
+}
+
+/// A reader of lines. Its lists serve one line after another, so that a usual line takes no memory.
+#[derive(Debug, Drop)]
+pub struct Reader {
+    alloc: Global,
+    scan: Scan,
+    progress: Progress,
+}
+
+impl Reader {
+    ghost use Rattle.xf_read.specs.Items.{GivesItem, item_of};
+
+    /// A reader before its first line.
+    pub fn new(alloc: Global) -> Result<Reader, NoMemory> {
+        Ok(Reader {
+            alloc,
+            scan: Scan::new(alloc),
+            progress: Progress::new(alloc),
+        })
+    }
+
+    // The item of a line's words.
+    #[tactic(auto, unfolding(crate::specs::Items::words_item))]
+    fn read_item(&mut self) -> Result<Item, LineFault>
+        ensures { Gives (λ item. item) result (words_item (shown self.old.scan.lexer.words.items)) }
+    {
+        let words = self.scan.lexer.words.as_slice();
+        if words.is_empty() {
+            return Ok(Item::Nothing);
+        }
+        let (head, rest) = read_head(HeadTable::Start, words)?;
+        self.progress.read_fields(tables_in(head), rest)?;
+        Ok(Item::One(read_call(head, &self.progress.fields)?))
+    }
+
+    #[tactic(auto, unfolding(crate::specs::Items::line_item))]
+    fn read_line(&mut self, bytes: &[u8]) -> Result<Item, LineFault>
+        ensures { Gives (λ item. item) result (line_item bytes.now) }
+    {
+        self.scan.read_words(self.alloc, bytes)?;
+        self.read_item()
+    }
+
+    /// Reads one logical line, whole or as far as it takes to be long, with or without its line feed. `number` is that of
+    /// its first physical line.
+    pub fn line(&mut self, bytes: &[u8], number: u64) -> Result<Item, ReadFault>
+        ensures { GivesItem result (item_of bytes.now number) }
+    {
+        match self.read_line(bytes) {
+            Ok(item) => Ok(item),
+            Err(LineFault::Bad(reason)) => Err(ReadFault::Bad {
+                line: number,
+                reason,
+            }),
+            Err(LineFault::Memory) => Err(ReadFault::NoMemory),
+        }
+    }
+}

@@ -1,0 +1,87 @@
+//! The words of a logical line, or its fault.
+ghost use Rattle.std.specs.Prelude.{◌≡◌, ◌≤◌, OnOk};
+ghost use Rattle.xf_read.specs.Gives.{Gives};
+ghost use Rattle.xf_read.specs.Lines.{line_start, scan_turn, finished, words_of};
+ghost use Rattle.xf_read.specs.Shown.{shown, scanned};
+
+use crate::fault::LineFault;
+use crate::lexer::Lexer;
+use std::alloc::{AllocError, Global};
+use xf_types::Reason;
+
+// How many bytes a logical line may have.
+const LINE_LIMIT: u32 = 4096;
+
+/// What is known of the line so far.
+#[derive(Debug, Drop)]
+pub(crate) struct Scan {
+    pub lexer: Lexer,
+    pub length: u32,
+    pub strange: bool,
+    pub joined: bool,
+}
+
+impl Scan {
+    pub fn new(alloc: Global) -> Scan
+        ensures { scanned result ≡ line_start }
+    {
+        Scan {
+            lexer: Lexer::new(alloc),
+            length: 0,
+            strange: false,
+            joined: false,
+        }
+    }
+
+    fn reset(&mut self) -> Result<(), AllocError>
+        ensures start { OnOk result (scanned self.new ≡ line_start) }
+        ensures empty { OnOk result (self.new.length ≡ 0) }
+    {
+        self.length = 0;
+        self.strange = false;
+        self.joined = false;
+        self.lexer.reset()
+    }
+
+    fn turn(&mut self, alloc: Global, byte: u8) -> Result<(), AllocError>
+        requires { self.old.length ≤ 4096 }
+        ensures { OnOk result (scanned self.new ≡ scan_turn (scanned self.old) byte) }
+    {
+        let quoting = self.lexer.quoting;
+        self.length += quoting.counted(byte);
+        self.strange = self.strange || quoting.is_strange(byte);
+        self.joined = quoting.is_slash() && byte == b'\n';
+        self.lexer.turn(alloc, byte)
+    }
+
+    fn finish(&mut self) -> Result<(), LineFault>
+        ensures { Gives (λ _. shown self.new.lexer.words.items) result (finished (scanned self.old)) }
+    {
+        if self.strange {
+            return Err(LineFault::Bad(Reason::Byte));
+        }
+        if self.joined || self.lexer.quoting.is_slash() {
+            return Err(LineFault::Bad(Reason::Cut));
+        }
+        if self.lexer.quoting.is_open() {
+            return Err(LineFault::Bad(Reason::Quote));
+        }
+        self.lexer.close_last()?;
+        Ok(())
+    }
+
+    /// Reads the words of a logical line.
+    #[tactic(auto, unfolding(crate::specs::Lines::words_of))]
+    pub fn read_words(&mut self, alloc: Global, bytes: &[u8]) -> Result<(), LineFault>
+        ensures { Gives (λ _. shown self.new.lexer.words.items) result (words_of bytes.now) }
+    {
+        self.reset()?;
+        'bytes: for byte in bytes {
+            self.turn(alloc, *byte)?;
+            if self.length > LINE_LIMIT {
+                return Err(LineFault::Bad(Reason::Long));
+            }
+        }
+        self.finish()
+    }
+}
