@@ -25,3 +25,4 @@ pub mod MoveLemmas
 pub mod FoldLemmas
 pub mod KnownLemmas
 pub mod AcceptLemmas
+pub mod UpdateLemmas

@@ -23,3 +23,4 @@ pub mod AcceptLaws
 pub mod OwnLaws
 pub mod LaterLaws
 pub mod TestLaws
+pub mod UpdateLaws

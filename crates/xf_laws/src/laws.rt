@@ -9,6 +9,7 @@ ghost use Rattle.xf_laws.specs.MachineLaws.{MachineLaws};
 ghost use Rattle.xf_laws.specs.MoveLaws.{MoveLaws};
 ghost use Rattle.xf_laws.specs.OwnLaws.{OwnLaws};
 ghost use Rattle.xf_laws.specs.TestLaws.{EqualityLaws, TestLaws};
+ghost use Rattle.xf_laws.specs.UpdateLaws.{UpdateLaws};
 
 /// A packet or an output reads the shown part and one own part, and changes no other.
 pub fn one_state()
@@ -33,6 +34,11 @@ pub fn own_parts()
 /// A number that is given is free.
 pub fn free_numbers()
     ensures { FreeLaws }
+{}
+
+/// An update takes one policy away and no other, and a given index or a fresh one is no other's.
+pub fn updates()
+    ensures { UpdateLaws }
 {}
 
 /// What holds of every machine holds of the empty one, and each step keeps it.
