@@ -1,12 +1,16 @@
--- Adding a policy raises the counters of policy numbers and of state ids by one at most.
+-- A step raises the counters of policy numbers and of state ids by one at most.
 use Rattle.std.proofs.Common.{arith, ◌≡◌, ◌≢◌, ◌⊎◌, inl, inr, ◌+◌, ◌*◌, ◌&&◌, ◌==◌, not, Bool, true, false, cond, ap, sym, subst, refl, length, ◌∙◌}
 use Rattle.std.specs.Prelude.{Option, None, Some, nat_le, find}
 use Rattle.xf_types.specs.declared.call.Reply.{Reply}
-use Rattle.xf_types.specs.declared.call.Reply.TheVariants.{NoMemory, Invalid, PolicyExists, NoEntry, DoneIndex}
+use Rattle.xf_types.specs.declared.call.Reply.TheVariants.{NoMemory, Invalid, PolicyExists, NoEntry, DoneIndex, DoneSid, NoState}
 use Rattle.xf_types.specs.declared.policy.Policy.{Policy}
 use Rattle.xf_types.specs.declared.policy.PolicySpec.{PolicySpec}
 use Rattle.xf_types.specs.declared.policy.PolicyKey.{PolicyKey}
+use Rattle.xf_types.specs.declared.state.Sa.{Sa}
+use Rattle.xf_types.specs.declared.state.SaSpec.{SaSpec}
 use Rattle.xf_types.specs.PolicyList.{has_key}
+use Rattle.xf_types.specs.StateList.{has_sid, changed, latest_match, id_of}
+use Rattle.xf_types.specs.StateRules.{is_full, full_of_states, state_added_if_room, refreshed_record, state_updated, state_update}
 use Rattle.xf_types.specs.Counters.{next_in}
 use Rattle.xf_types.specs.Same.{dir_number}
 use Rattle.xf_types.specs.Machine.{Machine, Shown, Outcome, outcome}
@@ -103,3 +107,27 @@ pub GrowsLittle-deleted : (m n : Machine) (key : PolicyKey) (r : Reply) → outc
     → r ≢ NoMemory → GrowsLittle m.shown n.shown
 GrowsLittle-deleted m n key r done memory =
     grows-answered m n (policy_delete m.shown key) r (λ _. done) (λ e. absurd (memory e)) (little-delete m.shown key)
+
+-- ---- states
+
+little-state_room : (s : Shown) (leaves : Sa → Bool) (spec : SaSpec) → Little s (state_added_if_room s leaves spec)
+little-state_room s leaves spec =
+    little-if s (is_full s) (full_of_states s)
+    (answer (DoneSid s.next_sid) (LeaveThen s leaves (Some (record { spec = spec; larval = false }))))
+    (record { grows = record { numbers = omega arith; sids = omega arith } })
+    (record { grows = record { numbers = omega arith; sids = omega arith } })
+
+little-state_updated : (s : Shown) (spec : SaSpec) (o : Option Sa) → Little s (state_updated s spec o)
+little-state_updated s spec None = little-stays s NoState
+little-state_updated s spec (Some old) =
+    little-if s old.larval (state_added_if_room s (has_sid old.sid) spec)
+    (answer (DoneSid old.sid) (InPlace (record s { states = changed old.sid (refreshed_record spec) s.states })))
+    (little-state_room s (has_sid old.sid) spec) (record { grows = record { numbers = omega arith; sids = omega arith } })
+
+-- or whatever the update of a state was answered
+pub GrowsLittle-state_updated : (m n : Machine) (spec : SaSpec) (r : Reply)
+    → (r ≢ NoMemory → outcome r n ≡ applied m (state_update m.shown spec)) → (r ≡ NoMemory → n ≡ m)
+    → GrowsLittle m.shown n.shown
+GrowsLittle-state_updated m n spec r done memory =
+    grows-answered m n (state_update m.shown spec) r done memory
+    (little-state_updated m.shown spec (latest_match m.shown.states (id_of spec)))

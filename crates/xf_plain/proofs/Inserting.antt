@@ -36,11 +36,11 @@ IsKept-inserted p old new next_index max_policies kept room plain e = record {
 -- ---- policies that leave
 
 -- no list is longer without some
-pub length-without : (test : Policy → Bool) (policies : List Policy) → length (without test policies) ≤ length policies
+pub length-without : {X : Type 0} (test : X → Bool) (xs : List X) → length (without test xs) ≤ length xs
 length-without test [] = omega arith
-length-without test (p ∷ ps) =
-    elim (test p) as (λ b. length (cond (not b) (p ∷ without test ps) (without test ps)) ≤ suc (length ps))
-    [ true ↦ omega (arith, length-without test ps) | false ↦ omega (arith, length-without test ps) ]
+length-without test (x ∷ xs) =
+    elim (test x) as (λ b. length (cond (not b) (x ∷ without test xs) (without test xs)) ≤ suc (length xs))
+    [ true ↦ omega (arith, length-without test xs) | false ↦ omega (arith, length-without test xs) ]
 
 -- where one is found one at least leaves
 length-without_found : (test : Policy → Bool) (policies : List Policy) → is_some (find test policies) ≡ true

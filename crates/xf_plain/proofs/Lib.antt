@@ -3,3 +3,10 @@ pub mod Inserting
 pub mod Numbers
 pub mod Flows
 pub mod Growing
+pub mod Lasts
+pub mod Tables
+pub mod Fates
+pub mod Founds
+pub mod KeptStates
+pub mod Packets
+pub mod Adding

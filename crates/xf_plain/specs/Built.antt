@@ -3,7 +3,7 @@ use Rattle.std.specs.Prelude.{◌≡◌, Bool, true, false, ◌==◌, [], length
 use Rattle.xf_types.specs.declared.call.Call.{Call}
 use Rattle.xf_types.specs.declared.call.Call.TheVariants as call
 
--- the calls on policies, where those that are added have no templates, and flows
+-- the calls on policies, where those that are added have no templates, those on states but allocspi, flows and packets
 abbrev pub IsBuilt : Call → Type 0
 IsBuilt (call.PolicyAdd spec) = spec.templates ≡ []
 IsBuilt (call.PolicyUpdate spec) = spec.templates ≡ []
@@ -14,7 +14,16 @@ IsBuilt (call.PolicyList filter) = Unit {0}
 IsBuilt (call.PolicyFlush ptype) = Unit {0}
 IsBuilt call.PolicyCount = Unit {0}
 IsBuilt (call.PolicySet set) = Unit {0}
+IsBuilt (call.StateAdd spec) = Unit {0}
+IsBuilt (call.StateUpdate spec) = Unit {0}
+IsBuilt (call.StateDelete id) = Unit {0}
+IsBuilt (call.StateGet id) = Unit {0}
+IsBuilt (call.StateDeleteAll filter) = Unit {0}
+IsBuilt (call.StateList filter) = Unit {0}
+IsBuilt (call.StateFlush proto) = Unit {0}
+IsBuilt call.StateCount = Unit {0}
 IsBuilt (call.Flow flow) = Unit {0}
+IsBuilt (call.Packet packet) = Unit {0}
 IsBuilt _ = ⊥
 
 -- the test of this
@@ -28,5 +37,14 @@ is_built (call.PolicyList filter) = true
 is_built (call.PolicyFlush ptype) = true
 is_built call.PolicyCount = true
 is_built (call.PolicySet set) = true
+is_built (call.StateAdd spec) = true
+is_built (call.StateUpdate spec) = true
+is_built (call.StateDelete id) = true
+is_built (call.StateGet id) = true
+is_built (call.StateDeleteAll filter) = true
+is_built (call.StateList filter) = true
+is_built (call.StateFlush proto) = true
+is_built call.StateCount = true
 is_built (call.Flow flow) = true
+is_built (call.Packet packet) = true
 is_built _ = false

@@ -2,3 +2,6 @@ pub mod Built
 pub mod Growth
 pub mod Kept
 pub mod Replacing
+pub mod Table
+pub mod Traffic
+pub mod Windows

@@ -4,7 +4,7 @@ ghost use Rattle.xf_plain.specs.Built.{IsBuilt, is_built};
 
 use xf_types::Call;
 
-/// Whether the machine has this call already: a call on policies without templates, or a flow.
+/// Whether the machine has this call already: one on policies without templates or on states, a flow, or a packet.
 pub fn is_built(call: &Call) -> bool
     ensures test { result ≡ is_built call.now }
     ensures fact { IsTrue result ↔ IsBuilt call.now }
@@ -18,7 +18,16 @@ pub fn is_built(call: &Call) -> bool
         | Call::PolicyFlush(_)
         | Call::PolicyCount
         | Call::PolicySet(_)
-        | Call::Flow(_) => true,
+        | Call::StateAdd(_)
+        | Call::StateUpdate(_)
+        | Call::StateDelete(_)
+        | Call::StateGet(_)
+        | Call::StateDeleteAll(_)
+        | Call::StateList(_)
+        | Call::StateFlush(_)
+        | Call::StateCount
+        | Call::Flow(_)
+        | Call::Packet(_) => true,
         _ => false,
     }
 }

@@ -4,7 +4,9 @@ ghost use Rattle.xf_plain.specs.Built.{IsBuilt};
 ghost use Rattle.xf_plain.specs.Growth.{GrowsLittle};
 
 mod policies;
+mod states;
 
+use crate::table::StateTable;
 use crate::{indices, listing};
 use std::alloc::Global;
 use std::marker::Model;
@@ -14,6 +16,7 @@ use xf_types::{Action, Call, Flow, NoMemory, Path, Policy, PolicySpec, Reply};
 #[derive(Drop)]
 pub struct Plain {
     policies: Vec<Policy>,
+    states: StateTable,
     next_index: u32,
     next_seq: u32,
     next_sid: u64,
@@ -27,17 +30,15 @@ pub struct Plain {
 }
 
 impl Model for Plain {
-    ghost use Rattle.std.specs.Prelude.{[]};
     ghost use Rattle.xf_types.specs.Machine.{Machine};
-    ghost use Rattle.xf_plain.specs.Kept.{IsKept};
+    ghost use Rattle.xf_plain.specs.Kept.{AreKept};
 
     ghost Value = { Machine };
 
-    // No state is listed yet.
     ghost view = { λ p. record {
       shown = record {
         policies = p.policies.items;
-        states = [];
+        states = p.states.states;
         next_index = p.next_index;
         next_seq = p.next_seq;
         next_sid = p.next_sid;
@@ -48,10 +49,11 @@ impl Model for Plain {
         max_policies = p.max_policies;
         max_states = p.max_states;
       };
-      own = [];
+      own = p.states.own;
     } };
 
-    ghost invariant = { λ p. IsKept p.policies.items p.next_index p.max_policies };
+    ghost invariant = { λ p.
+        AreKept p.policies.items p.next_index p.max_policies p.states.states p.next_sid p.max_states };
 }
 
 impl Plain {
@@ -72,6 +74,7 @@ impl Plain {
     {
         Ok(Plain {
             policies: Vec::new(alloc),
+            states: StateTable::new(alloc),
             next_index: 1,
             next_seq: 1,
             next_sid: 1,
@@ -108,7 +111,7 @@ impl Plain {
         requires room { length self.old.shown.policies < self.old.shown.max_policies }
         requires plain { spec.now.templates ≡ [] }
         ensures ok { OnOk result
-            (self.new ≡ record { shown = with_policy self.old.shown spec.now index self.old.shown.policies; own = [] }) }
+            (self.new ≡ record { shown = with_policy self.old.shown spec.now index self.old.shown.policies; own = self.old.own }) }
         ensures err { OnErr result (self.new ≡ self.old) }
     {
         let policy = Policy {
@@ -223,7 +226,16 @@ impl Plain {
             Call::PolicyFlush(ptype) => self.policy_flush(*ptype),
             Call::PolicyCount => self.policy_count(),
             Call::PolicySet(set) => self.policy_set(set),
+            Call::StateAdd(spec) => self.state_add(spec),
+            Call::StateUpdate(spec) => self.state_update(spec),
+            Call::StateDelete(id) => self.state_delete(id),
+            Call::StateGet(id) => self.state_get(id),
+            Call::StateDeleteAll(filter) => self.state_deleteall(filter),
+            Call::StateList(filter) => self.state_list(filter),
+            Call::StateFlush(proto) => self.state_flush(*proto),
+            Call::StateCount => self.state_count(),
             Call::Flow(flow) => self.flow(flow),
+            Call::Packet(packet) => self.packet(packet),
             _ => unreachable!(),
         }
     }

@@ -10,4 +10,4 @@ returns-in-Allow-clause-answer c =
     let found : first_policy c.args.self.now.shown.policies c.args.flow.now ≡ Some c.in-Some.policy.now = search rules in
     let listed : first_policy c.self.inside.policies.items c.args.flow.now ≡ Some c.in-Some.policy.now = search rules in
     flow_rule-allowed c.args.self.now c.args.flow.now c.in-Some.policy.now c.empty.result found c.in-Allow.is
-    (at_first_policy (λ (p : Policy). p.spec.templates ≡ []) _ _ _ c.self.invariant.plain listed) c.empty.ensures
+    (at_first_policy (λ (p : Policy). p.spec.templates ≡ []) _ _ _ c.self.invariant.policies.plain listed) c.empty.ensures

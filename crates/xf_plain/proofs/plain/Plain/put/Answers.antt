@@ -20,4 +20,4 @@ invariant_of-self-2 c =
     subst (λ (m : Machine). length m.shown.policies < m.shown.max_policies) (sym c.self.view_is) c.requires.room
     in
     let plain : c.copy.result.templates ≡ [] = ap (λ (s : PolicySpec). s.templates) c.copy.ensures ∙ c.requires.plain in
-    IsKept-inserted p c.self.inside.policies.items _ _ _ c.self.invariant room plain c.in_ok-insert.ensures.ok
+    record { policies = IsKept-inserted p c.self.inside.policies.items _ _ _ c.self.invariant.policies room plain c.in_ok-insert.ensures.ok; states = c.self.invariant.states }

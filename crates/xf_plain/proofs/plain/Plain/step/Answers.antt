@@ -1,4 +1,7 @@
-use Rattle.xf_plain.proofs.Growing.{GrowsLittle-added, GrowsLittle-updated, GrowsLittle-deleted}
+use Rattle.xf_types.specs.StateList.{latest_match}
+use Rattle.xf_types.specs.TrafficRules.{id_of_packet}
+use Rattle.xf_plain.proofs.Growing.{GrowsLittle-added, GrowsLittle-updated, GrowsLittle-deleted, GrowsLittle-state_updated}
+use Rattle.xf_plain.proofs.Packets.{grows-found}
 use Rattle.xf_plain.proofs.plain.Plain.step.Goals as goal
 
 pub returns-in-PolicyAdd-clause-grows : goal.returns-in-PolicyAdd-clause-grows
@@ -15,3 +18,13 @@ pub returns-in-PolicyDelete-clause-grows : goal.returns-in-PolicyDelete-clause-g
 returns-in-PolicyDelete-clause-grows c =
     GrowsLittle-deleted c.args.self.now c.policy_delete.new.self c.in-PolicyDelete.key c.policy_delete.result
     c.policy_delete.ensures.answer c.policy_delete.ensures.memory
+
+pub returns-in-StateUpdate-clause-grows : goal.returns-in-StateUpdate-clause-grows
+returns-in-StateUpdate-clause-grows c =
+    GrowsLittle-state_updated c.args.self.now c.state_update.new.self c.in-StateUpdate.spec c.state_update.result
+    c.state_update.ensures.answer c.state_update.ensures.memory
+
+pub returns-in-Packet-clause-grows : goal.returns-in-Packet-clause-grows
+returns-in-Packet-clause-grows c =
+    grows-found c.args.self.now c.packet.new.self c.in-Packet.packet c.packet.result
+    (latest_match c.args.self.now.shown.states (id_of_packet c.in-Packet.packet)) c.packet.ensures.answer

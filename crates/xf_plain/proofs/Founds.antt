@@ -1,0 +1,85 @@
+-- What is found in what is held is what is found in the states.
+use Rattle.std.proofs.Common.{arith, ◌≡◌, ℕ, suc, ◌+◌, ◌-◌, ◌<◌, ◌≤◌, ◌==◌, Bool, true, false, cond, not, ◌&&◌, List, [], ◌∷◌, ◌++◌, length, get_or, drop, take, filter, map, refl, ap, sym, ◌∙◌, subst, eqb-true}
+use Rattle.std.specs.Prelude.{Option, None, Some, slice_get}
+use Rattle.std.specs.Option.{option_map}
+use Rattle.std.proofs.lemmas.List.{append-nil, get_or-map, length-map}
+use Rattle.std.proofs.lemmas.List.Elements.{filter_more}
+use Rattle.xf_types.specs.declared.state.Sa.{Sa}
+use Rattle.xf_types.specs.declared.state.SaId.{SaId}
+use Rattle.xf_types.specs.declared.state.SaSpec.{SaSpec}
+use Rattle.xf_types.specs.PolicyList.{without}
+use Rattle.xf_types.specs.StateList.{last_of, latest_match, larval_replaced, has_id, is_larval_of, is_that}
+use Rattle.xf_plain.specs.Table.{HeldView, TableView, table_of}
+use Rattle.xf_plain.proofs.Lasts.{last_of-map, last_of-filter, last_of-at, last_of-past}
+
+not-zero : (n : ℕ) → (n ≡ 0 → ⊥) → (n == 0) ≡ false
+not-zero n some = elim (n == 0) as (λ b. (n == 0) ≡ b → b ≡ false) [ true ↦ (λ e. absurd (some (eqb-true n 0 e))) | false ↦ (λ e. refl) ] refl
+
+pub larval-found : (spec : SaSpec) (hs : List HeldView) (t : TableView) (o : Option HeldView) → table_of hs ≡ t
+    → (spec.seq ≡ 0 → ⊥) → o ≡ last_of (λ h. is_larval_of spec h.state) hs
+    → option_map (λ h. h.state) o ≡ larval_replaced t.states spec
+larval-found spec hs t o is_t asked e =
+    subst (λ (u : TableView). option_map (λ (h : HeldView). h.state) o ≡ larval_replaced u.states spec) is_t
+    (ap (option_map (λ (h : HeldView). h.state)) e ∙ sym (last_of-map (λ (h : HeldView). h.state) (is_larval_of spec) hs)
+    ∙ ap (λ b. cond b None (last_of (is_larval_of spec) (map (λ (h : HeldView). h.state) hs))) (sym (not-zero spec.seq asked)))
+
+pub latest_but-found : (one : Option Sa) (id : SaId) (hs : List HeldView) (t : TableView) (o : Option HeldView) → table_of hs ≡ t
+    → o ≡ last_of (λ h. not (is_that one h.state) && has_id id h.state) hs
+    → option_map (λ h. h.state) o ≡ latest_match (without (is_that one) t.states) id
+latest_but-found one id hs t o is_t e =
+    subst (λ (u : TableView). option_map (λ (h : HeldView). h.state) o ≡ latest_match (without (is_that one) u.states) id) is_t
+    (ap (option_map (λ (h : HeldView). h.state)) e
+    ∙ sym (last_of-map (λ (h : HeldView). h.state) (λ s. not (is_that one s) && has_id id s) hs)
+    ∙ sym (last_of-filter (has_id id) (λ s. not (is_that one s)) (map (λ (h : HeldView). h.state) hs)))
+
+-- what is at a place of the states
+at-place : (test : Sa → Bool) (b : Bool) (hs : List HeldView) (p : ℕ) (h : HeldView) → p < length hs → h ≡ get_or hs p h
+    → test h.state ≡ b → test (get_or (map (λ (x : HeldView). x.state) hs) p h.state) ≡ b
+at-place test b hs p h within at passes =
+    ap test (get_or-map (λ (x : HeldView). x.state) hs p h h.state within ∙ ap (λ (x : HeldView). x.state) (sym at)) ∙ passes
+
+-- the states are as many as what is held
+pub states-within : (hs : List HeldView) (t : TableView) (p : ℕ) → table_of hs ≡ t → p < length t.states → p < length hs
+states-within hs t p is_t within =
+    subst (λ n. p < n) (length-map hs (λ (h : HeldView). h.state)) (subst (λ (u : TableView). p < length u.states) (sym is_t) within)
+
+pub place-found : (id : SaId) (hs : List HeldView) (t : TableView) (p : ℕ) (h : HeldView) → table_of hs ≡ t
+    → p < length t.states → last_of (has_id id) (drop (suc p) t.states) ≡ None → h ≡ get_or hs p h → has_id id h.state ≡ true
+    → slice_get t.states p ≡ latest_match t.states id
+place-found id hs t p h is_t within none at passes =
+    sym (last_of-at (has_id id) t.states p h.state within none
+    (subst (λ (u : TableView). has_id id (get_or u.states p h.state) ≡ true) is_t (at-place (has_id id) true hs p h (states-within hs t p is_t within) at passes)))
+
+pub place-past : (id : SaId) (hs : List HeldView) (t : TableView) (p : ℕ) (h : HeldView) → table_of hs ≡ t
+    → p < length t.states → last_of (has_id id) (drop (suc p) t.states) ≡ None → h ≡ get_or hs p h → has_id id h.state ≡ false
+    → last_of (has_id id) (drop p t.states) ≡ None
+place-past id hs t p h is_t within none at fails =
+    last_of-past (has_id id) t.states p h.state within none
+    (subst (λ (u : TableView). has_id id (get_or u.states p h.state) ≡ false) is_t (at-place (has_id id) false hs p h (states-within hs t p is_t within) at fails))
+
+-- what a filter leaves of one state more
+pub listed-more : (test : Sa → Bool) (hs : List HeldView) (t : TableView) (i : ℕ) (h : HeldView) → table_of hs ≡ t → i < length hs
+    → h ≡ get_or hs i h → filter test (take (i + 1) t.states) ≡ filter test (take i t.states) ++ cond (test h.state) (h.state ∷ []) []
+listed-more test hs t i h is_t within at =
+    let there : get_or (map (λ (x : HeldView). x.state) hs) i h.state ≡ h.state =
+    get_or-map (λ (x : HeldView). x.state) hs i h h.state within ∙ ap (λ (x : HeldView). x.state) (sym at)
+    in
+    subst (λ (u : TableView). filter test (take (i + 1) u.states) ≡ filter test (take i u.states) ++ cond (test h.state) (h.state ∷ []) []) is_t
+    (filter_more test (map (λ (x : HeldView). x.state) hs) i h.state (subst (λ n. i < n) (sym (length-map hs (λ (x : HeldView). x.state))) within)
+    ∙ ap (λ (s : Sa). filter test (take i (map (λ (x : HeldView). x.state) hs)) ++ cond (test s) (s ∷ []) []) there)
+
+-- the same, where the state passes and was pushed, or was passed over
+pub listed-pushed : (test : Sa → Bool) (hs : List HeldView) (t : TableView) (i : ℕ) (h : HeldView) (s : Sa) (old : List Sa) → table_of hs ≡ t
+    → i < length hs → h ≡ get_or hs i h → s ≡ h.state → test s ≡ true → old ≡ filter test (take i t.states)
+    → old ++ s ∷ [] ≡ filter test (take (i + 1) t.states)
+listed-pushed test hs t i h s old is_t within at is passes so =
+    ap (λ ss. ss ++ s ∷ []) so ∙ ap (λ b. filter test (take i t.states) ++ cond b (s ∷ []) []) (sym passes)
+    ∙ ap (λ (x : Sa). filter test (take i t.states) ++ cond (test x) (x ∷ []) []) is ∙ sym (listed-more test hs t i h is_t within at)
+
+pub listed-passed : (test : Sa → Bool) (hs : List HeldView) (t : TableView) (i : ℕ) (h : HeldView) (s : Sa) (old : List Sa) → table_of hs ≡ t
+    → i < length hs → h ≡ get_or hs i h → s ≡ h.state → test s ≡ false → old ≡ filter test (take i t.states)
+    → old ≡ filter test (take (i + 1) t.states)
+listed-passed test hs t i h s old is_t within at is fails so =
+    so ∙ sym (append-nil (filter test (take i t.states)))
+    ∙ ap (λ b. filter test (take i t.states) ++ cond b (s ∷ []) []) (sym fails)
+    ∙ ap (λ (x : Sa). filter test (take i t.states) ++ cond (test x) (x ∷ []) []) is ∙ sym (listed-more test hs t i h is_t within at)

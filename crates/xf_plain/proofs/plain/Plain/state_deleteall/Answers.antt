@@ -1,0 +1,13 @@
+use Rattle.std.proofs.Common.{ap}
+use Rattle.xf_types.specs.StateList.{state_meets}
+use Rattle.xf_plain.specs.Table.{TableView}
+use Rattle.xf_plain.proofs.KeptStates.{kept-without}
+use Rattle.xf_plain.proofs.plain.Plain.state_deleteall.Goals as goal
+
+pub invariant_of-self : goal.invariant_of-self
+invariant_of-self c = record {
+  policies = c.self.invariant.policies;
+  states =
+      kept-without (state_meets c.args.filter.now) c.self.inside.states.states _ _ _ c.self.invariant.states
+      (ap (λ (t : TableView). t.states) c.remove_admitted.ensures);
+}

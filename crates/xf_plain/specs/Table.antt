@@ -1,0 +1,85 @@
+-- The states of a machine, each held with its own part.
+use Rattle.std.specs.Prelude.{◌≡◌, ℕ, Bool, true, false, not, List, [], ◌∷◌, ◌++◌, map, filter, Option, None, Some, slice_get}
+use Rattle.xf_types.specs.declared.state.Sa.{Sa}
+use Rattle.xf_types.specs.declared.state.SaSpec.{SaSpec}
+use Rattle.xf_types.specs.Machine.{Own}
+use Rattle.xf_types.specs.PolicyList.{without}
+use Rattle.xf_types.specs.StateList.{has_sid, changed}
+use Rattle.xf_types.specs.declared.call.Reply.{Reply}
+use Rattle.xf_types.specs.OwnParts.{new_own, own_without, own_of, own_put}
+use Rattle.xf_types.specs.OneState.{dying_if}
+use Rattle.xf_types.specs.TrafficRules.{Fate, Same, Ends, Becomes, Treated}
+use Rattle.xf_replay.specs.declared.own.Own.{Own as OwnPart}
+
+-- a state with its own part
+pub record HeldView : Type 0 where
+  pub state : Sa
+  pub own : Own
+
+-- from its two parts
+abbrev pub held : Sa → Own → HeldView
+held s o = record { state = s; own = o }
+
+-- an own part as the machine has it: the window tells the accepted numbers
+abbrev pub own_shown : OwnPart → Own
+own_shown o =
+    record { accepted = o.window.accepted; sent = o.out; packets = o.packets; bytes = o.bytes; first_use = o.first }
+
+-- a new state in use, with the own part that it begins with
+abbrev pub new_held : ℕ → ℕ → SaSpec → HeldView
+new_held sid added spec =
+    held (record { sid = sid; added = added; larval = false; dying = false; spec = spec }) (new_own spec)
+
+-- a state with its own part after its fate; one that ends leaves the list as it was
+abbrev pub fated : HeldView → Fate → HeldView
+fated h Same = h
+fated h Ends = h
+fated h (Becomes soft own) = held (dying_if soft h.state) own
+
+-- the state ends
+abbrev pub is_end : Fate → Bool
+is_end Same = false
+is_end Ends = true
+is_end (Becomes soft own) = false
+
+-- the states and their own parts, in one order
+pub record TableView : Type 0 where
+  pub states : List Sa
+  pub own : List Own
+
+-- the two lists of what is held
+abbrev pub table_of : List HeldView → TableView
+table_of hs = record { states = map (λ h. h.state) hs; own = map (λ h. h.own) hs }
+
+-- the states that pass the test leave with their own parts
+abbrev pub table_without : (Sa → Bool) → TableView → TableView
+table_without leaves t = record { states = without leaves t.states; own = own_without leaves t.states t.own }
+
+-- one more goes last
+abbrev pub table_with : HeldView → TableView → TableView
+table_with h t = record { states = t.states ++ h.state ∷ []; own = t.own ++ h.own ∷ [] }
+
+-- the record of the state with this state id is changed
+abbrev pub table_changed : ℕ → (Sa → Sa) → TableView → TableView
+table_changed sid change t = record { states = changed sid change t.states; own = t.own }
+
+-- the table after the fate of one of its states
+abbrev pub table_put : TableView → Sa → Fate → TableView
+table_put t x Same = t
+table_put t x Ends = table_without (has_sid x.sid) t
+table_put t x (Becomes soft own) =
+    record { states = changed x.sid (dying_if soft) t.states; own = own_put x.sid own t.states t.own }
+
+-- the state at a place, where there is a place
+abbrev pub state_at : List Sa → Option ℕ → Option Sa
+state_at states None = None
+state_at states (Some place) = slice_get states place
+
+-- the own part of a listed state
+abbrev pub own_in_table : TableView → Sa → Own
+own_in_table t s = own_of s.sid t.states t.own (new_own s.spec)
+
+-- the reply and the table afterwards are those of a rule for one of the states
+pub record Puts (reply : Reply) (old new : TableView) (s : Sa) (rule : Treated) : Type 0 where
+  pub is_reply : reply ≡ rule.reply
+  pub is_put : new ≡ table_put old s rule.fate
