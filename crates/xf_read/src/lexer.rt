@@ -27,7 +27,7 @@ fn is_blank(byte: u8) -> bool
 
 impl Lexer {
     ghost use Rattle.std.specs.Prelude.{OnOk};
-    ghost use Rattle.xf_read.specs.Lexing.{start, close, keep, turn_to, open_quote, bare_turn, single_turn, double_turn, turn};
+    ghost use Rattle.xf_read.specs.Lexing.{start, close, keep, extended, turn_to, open_quote, bare_turn, single_turn, double_turn, turn};
     ghost use Rattle.xf_read.specs.Shown.{heard};
 
     pub fn new(alloc: Global) -> Lexer
@@ -84,6 +84,21 @@ impl Lexer {
             None => {
                 let mut word = self.empty_word(alloc)?;
                 word.push(byte)?;
+                self.word = Some(word);
+            }
+        }
+        Ok(())
+    }
+
+    /// Goes on with the word by some bytes, or begins it.
+    pub fn extend(&mut self, alloc: Global, run: &[u8]) -> Result<(), AllocError>
+        ensures { OnOk result (heard self.new ≡ extended (heard self.old) run.now) }
+    {
+        match &mut self.word {
+            Some(word) => word.extend_from_slice(run)?,
+            None => {
+                let mut word = self.empty_word(alloc)?;
+                word.extend_from_slice(run)?;
                 self.word = Some(word);
             }
         }

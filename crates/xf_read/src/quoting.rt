@@ -1,6 +1,6 @@
 //! Where the bytes of a logical line stand.
-ghost use Rattle.std.specs.Prelude.{◌≡◌, ◌≤◌};
-ghost use Rattle.xf_read.specs.Quotes.{after_bare, after_single, after_double, after, is_slash, is_open, counted, is_strange};
+ghost use Rattle.std.specs.Prelude.{◌≡◌, ◌≤◌, length};
+ghost use Rattle.xf_read.specs.Quotes.{after_bare, after_single, after_double, after, is_slash, is_open, counted, is_strange, is_plain, plain_count};
 
 /// What stands before a byte. A backslash is kept apart until the next byte shows whether it joins two physical lines.
 #[derive(Clone, Copy, Debug, PartialEq, Eq)]
@@ -44,6 +44,26 @@ fn after_double(byte: u8) -> Quoting
         b'\\' => Quoting::DoubleSlash,
         _ => Quoting::Double,
     }
+}
+
+/// Whether the byte outside quotes goes on with its word.
+pub(crate) fn is_plain(byte: u8) -> bool
+    ensures { result ≡ is_plain byte }
+{
+    33 <= byte && byte <= 126 && byte != b'"' && byte != b'#' && byte != b'\'' && byte != b'\\'
+}
+
+/// How many bytes from the first on go on with their word outside quotes.
+pub(crate) fn plain_count(bytes: &[u8]) -> usize
+    ensures count { result ≡ plain_count bytes.now }
+    ensures few { result ≤ length bytes.now }
+{
+    for (i, byte) in bytes.iter().enumerate() {
+        if !is_plain(*byte) {
+            return i;
+        }
+    }
+    bytes.len()
 }
 
 impl Quoting {
