@@ -1,10 +1,10 @@
 //! The words of a logical line, or its fault.
 ghost use Rattle.std.specs.Prelude.{◌≡◌, ◌≤◌, ◌<◌, ◌+◌, length, OnOk};
-ghost use Rattle.xf_read.specs.Gives.{Gives};
-ghost use Rattle.xf_read.specs.Lines.{line_start, scan_turn, run_turn, finished, words_of};
-ghost use Rattle.xf_read.specs.Quotes.{plain_count};
-ghost use Rattle.xf_read.specs.declared.quoting.Quoting.TheVariants.{Bare};
-ghost use Rattle.xf_read.specs.Shown.{shown, scanned};
+ghost use Rattle.xf_lex.specs.Gives.{Gives};
+ghost use Rattle.xf_lex.specs.Lines.{line_start, scan_turn, run_turn, finished, words_of};
+ghost use Rattle.xf_lex.specs.Quotes.{plain_count};
+ghost use Rattle.xf_lex.specs.declared.quoting.Quoting.TheVariants.{Bare};
+ghost use Rattle.xf_lex.specs.Shown.{shown, scanned};
 
 use crate::fault::LineFault;
 use crate::lexer::Lexer;
@@ -17,7 +17,7 @@ const LINE_LIMIT: u32 = 4096;
 
 /// What is known of the line so far.
 #[derive(Debug, Drop)]
-pub(crate) struct Scan {
+pub struct Scan {
     pub lexer: Lexer,
     pub length: u32,
     pub strange: bool,

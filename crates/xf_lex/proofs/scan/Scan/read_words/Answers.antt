@@ -1,8 +1,8 @@
 use Rattle.std.proofs.Common.{sym, ap, ◌∙◌, arith}
-use Rattle.xf_read.specs.Lines.{Scanned}
-use Rattle.xf_read.specs.Shown.{scanned}
-use Rattle.xf_read.proofs.Runs.{run_taken}
-use Rattle.xf_read.proofs.scan.Scan.read_words.Goals as goal
+use Rattle.xf_lex.specs.Lines.{Scanned}
+use Rattle.xf_lex.specs.Shown.{scanned}
+use Rattle.xf_lex.proofs.Runs.{run_taken}
+use Rattle.xf_lex.proofs.scan.Scan.read_words.Goals as goal
 
 pub bytes-preserved-then-count-gt0 : goal.bytes-preserved-then-count-gt0
 bytes-preserved-then-count-gt0 c =

@@ -2,8 +2,8 @@
 use Rattle.std.specs.Prelude.{ℕ, ◌+◌, Bool, false, ◌==◌, ◌&&◌, ◌||◌, nat_lt, if◌then◌else◌, List, [], ◌∷◌, length, Result, Ok, Err}
 use Rattle.xf_types.specs.declared.status.Reason.{Reason}
 use Rattle.xf_types.specs.declared.status.Reason.TheVariants.{Byte, Long, Quote, Cut}
-use Rattle.xf_read.specs.Quotes.{is_slash, is_open, counted, is_strange}
-use Rattle.xf_read.specs.Lexing.{Word, Lexed, start, closed, extended, turn}
+use Rattle.xf_lex.specs.Quotes.{is_slash, is_open, counted, is_strange}
+use Rattle.xf_lex.specs.Lexing.{Word, Lexed, start, closed, extended, turn}
 
 -- how many bytes a logical line may have
 abbrev pub line_limit : ℕ

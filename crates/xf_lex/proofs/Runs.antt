@@ -1,10 +1,10 @@
 -- Bytes that go on with a word outside quotes may be taken together.
 use Rattle.std.proofs.Common.{◌≡◌, ℕ, ◌+◌, ◌<◌, ◌≤◌, ◌==◌, Bool, true, false, ◌&&◌, ◌||◌, refl, sym, ap, ◌∙◌, arith, suc, zero, List, [], ◌∷◌, ◌++◌, append_assoc, length, take, drop, Option, None, Some, unwrap_or, nat_lt}
 use Rattle.std.proofs.lemmas.Bool.Decides.{nat_tests}
-use Rattle.xf_read.specs.declared.quoting.Quoting.TheVariants.{Bare}
-use Rattle.xf_read.specs.Lexing.{Word, Lexed, keep, onto, extended, bare_turn, turn, turn_at}
-use Rattle.xf_read.specs.Lines.{Scanned, scan_turn, run_turn, scanned_from}
-use Rattle.xf_read.specs.Quotes.{is_plain, plain_count, counted, is_slash, is_strange}
+use Rattle.xf_lex.specs.declared.quoting.Quoting.TheVariants.{Bare}
+use Rattle.xf_lex.specs.Lexing.{Word, Lexed, keep, onto, extended, bare_turn, turn, turn_at}
+use Rattle.xf_lex.specs.Lines.{Scanned, scan_turn, run_turn, scanned_from}
+use Rattle.xf_lex.specs.Quotes.{is_plain, plain_count, counted, is_slash, is_strange}
 
 -- a byte that goes on with a word
 onto_is : (w : Option Word) (b : ℕ) → onto w b ≡ Some (unwrap_or w [] ++ b ∷ [])

@@ -1,7 +1,7 @@
 -- The words of a logical line, byte by byte.
 use Rattle.std.specs.Prelude.{ℕ, Bool, ◌==◌, ◌||◌, if◌then◌else◌, List, [], ◌∷◌, ◌++◌, Option, None, Some, unwrap_or}
-use Rattle.xf_read.specs.declared.quoting.Quoting.{Quoting}
-use Rattle.xf_read.specs.declared.quoting.Quoting.TheVariants.{Bare, Single, Double, Comment, BareSlash, SingleSlash, DoubleSlash}
+use Rattle.xf_lex.specs.declared.quoting.Quoting.{Quoting}
+use Rattle.xf_lex.specs.declared.quoting.Quoting.TheVariants.{Bare, Single, Double, Comment, BareSlash, SingleSlash, DoubleSlash}
 
 -- a word is its bytes
 abbrev pub Word : Type 0

@@ -1,7 +1,7 @@
 -- Where the bytes of a logical line stand, and what each of them counts for.
 use Rattle.std.specs.Prelude.{ℕ, Bool, true, false, ◌==◌, ◌&&◌, ◌||◌, not, nat_le, if◌then◌else◌, ◌+◌, List, [], ◌∷◌}
-use Rattle.xf_read.specs.declared.quoting.Quoting.{Quoting}
-use Rattle.xf_read.specs.declared.quoting.Quoting.TheVariants.{Bare, Single, Double, Comment, BareSlash, SingleSlash, DoubleSlash}
+use Rattle.xf_lex.specs.declared.quoting.Quoting.{Quoting}
+use Rattle.xf_lex.specs.declared.quoting.Quoting.TheVariants.{Bare, Single, Double, Comment, BareSlash, SingleSlash, DoubleSlash}
 
 -- outside quotes: # begins a comment, a quote opens, and a backslash may join
 abbrev pub after_bare : ℕ → Quoting

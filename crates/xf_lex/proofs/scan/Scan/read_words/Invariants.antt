@@ -1,7 +1,7 @@
 use Rattle.std.proofs.Common.{◌≡◌, ◌≤◌, length}
-use Rattle.xf_read.specs.Lines.{scanned_from, line_start}
-use Rattle.xf_read.specs.Shown.{scanned}
-use Rattle.xf_read.proofs.scan.Scan.read_words.Given as goal
+use Rattle.xf_lex.specs.Lines.{scanned_from, line_start}
+use Rattle.xf_lex.specs.Shown.{scanned}
+use Rattle.xf_lex.proofs.scan.Scan.read_words.Given as goal
 
 abbrev pub invariant-bytes : goal.invariant-bytes
 invariant-bytes l = record {
