@@ -26,7 +26,7 @@ use Rattle.xf_read.specs.declared.row.Table.TheVariants as table
 use Rattle.xf_read.specs.declared.row.Value.{Value}
 use Rattle.xf_read.specs.declared.row.Value.TheVariants as value
 use Rattle.xf_read.specs.Keywords.{text_of}
-use Rattle.xf_read.specs.Lexing.{Word}
+use Rattle.xf_lex.specs.Lexing.{Word}
 use Rattle.xf_read.specs.Numbers.{number_in}
 use Rattle.xf_read.specs.Tables.{names_of, rows_of}
 

@@ -11,7 +11,7 @@ use Rattle.xf_read.specs.declared.head.HeadTable.TheVariants as table
 use Rattle.xf_read.specs.declared.head.TheConstants as constant
 use Rattle.xf_read.specs.declared.keyword.Keyword.{Keyword}
 use Rattle.xf_read.specs.Keywords.{text_of}
-use Rattle.xf_read.specs.Lexing.{Word}
+use Rattle.xf_lex.specs.Lexing.{Word}
 
 -- the rows of a table
 abbrev pub head_rows_of : HeadTable → List HeadRow

@@ -9,8 +9,8 @@ use Rattle.xf_read.specs.declared.reader.Item.TheVariants.{Nothing, One}
 use Rattle.xf_read.specs.Calls.{call_of}
 use Rattle.xf_read.specs.Grammar.{◌>>=◌, fields_of}
 use Rattle.xf_read.specs.Heads.{head_of}
-use Rattle.xf_read.specs.Lexing.{Word}
-use Rattle.xf_read.specs.Lines.{words_of}
+use Rattle.xf_lex.specs.Lexing.{Word}
+use Rattle.xf_lex.specs.Lines.{words_of}
 use Rattle.xf_read.specs.Tables.{tables_of}
 
 -- a line without words is nothing; else its head says which words may follow, and what they ask for

@@ -1,9 +1,3 @@
-pub mod Quotes
-pub mod Lexing
-pub mod Lines
-pub mod LogicalLines
-pub mod Shown
-pub mod Gives
 pub mod Keywords
 pub mod Tables
 pub mod Heads

@@ -4,7 +4,7 @@ use Rattle.std.specs.Char.{is_ascii_hexdigit}
 use Rattle.xf_types.specs.declared.status.Reason.{Reason}
 use Rattle.xf_types.specs.declared.status.Reason.TheVariants.{Number, Range}
 use Rattle.xf_addr.specs.Numbers.{is_decimal, value_from}
-use Rattle.xf_read.specs.Lexing.{Word}
+use Rattle.xf_lex.specs.Lexing.{Word}
 
 -- the value of a hexadecimal digit of either case
 abbrev pub hex_digit : ℕ → ℕ

@@ -3,7 +3,7 @@ use Rattle.std.specs.Prelude.{ℕ, List, map}
 use Rattle.xf_read.specs.declared.fields.Progress.{Progress as Held}
 use Rattle.xf_read.specs.declared.fields.Used.{Used}
 use Rattle.xf_read.specs.Grammar.{Progress}
-use Rattle.xf_read.specs.Lexing.{Word}
+use Rattle.xf_lex.specs.Lexing.{Word}
 
 -- a group and its word
 abbrev pub use_of : Used → ℕ × Word

@@ -1,17 +1,17 @@
 //! The fields of a line's words.
 ghost use Rattle.std.specs.Prelude.{◌≡◌, ◌+◌};
-ghost use Rattle.xf_read.specs.Gives.{Gives};
+ghost use Rattle.xf_lex.specs.Gives.{Gives};
+ghost use Rattle.xf_lex.specs.Shown.{shown};
 ghost use Rattle.xf_read.specs.Grammar.{row_in, row_among, row_of, was_used, fields_of};
-ghost use Rattle.xf_read.specs.Shown.{shown};
 ghost use Rattle.xf_read.specs.Seen.{seen, uses};
 ghost use Rattle.xf_read.specs.Tables.{rows_of};
 
-use crate::fault::LineFault;
 use crate::keyword::Keyword;
 use crate::row::{Arg, Args, Field, Row, Slot, Table, Value};
 use crate::tables::rows_in;
 use crate::values::read_value;
 use std::alloc::Global;
+use xf_lex::LineFault;
 use xf_types::Reason;
 
 /// A word that a group had.

@@ -1,8 +1,8 @@
 //! The heads of lines.
 ghost use Rattle.std.specs.Prelude.{◌≡◌};
-ghost use Rattle.xf_read.specs.Gives.{Reads};
+ghost use Rattle.xf_lex.specs.Gives.{Reads};
 ghost use Rattle.xf_read.specs.Heads.{head_rows_of, head_row_in, head_of};
-ghost use Rattle.xf_read.specs.Shown.{shown};
+ghost use Rattle.xf_lex.specs.Shown.{shown};
 
 use crate::keyword::Keyword;
 use xf_types::{Dir, Reason};

@@ -6,23 +6,18 @@ mod fault;
 mod fields;
 mod head;
 mod keyword;
-mod lexer;
 mod lookup;
 mod number;
 mod policy;
-mod quoting;
 mod reader;
 mod row;
-mod scan;
 mod selector;
-mod split;
 mod tables;
 mod thresholds;
 mod values;
 
 pub use fault::ReadFault;
 pub use reader::{Item, Reader};
-pub use split::{count_physical, split_line};
 
 #[cfg(test)]
 mod tests;

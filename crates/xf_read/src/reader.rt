@@ -1,16 +1,16 @@
 //! The reader of lines.
 ghost use Rattle.std.specs.Prelude.{◌≡◌};
-ghost use Rattle.xf_read.specs.Gives.{Gives};
+ghost use Rattle.xf_lex.specs.Gives.{Gives};
+ghost use Rattle.xf_lex.specs.Shown.{shown};
 ghost use Rattle.xf_read.specs.Items.{words_item, line_item};
-ghost use Rattle.xf_read.specs.Shown.{shown};
 
 use crate::call::read_call;
-use crate::fault::{LineFault, ReadFault};
+use crate::fault::ReadFault;
 use crate::fields::Progress;
 use crate::head::{HeadTable, read_head};
-use crate::scan::Scan;
 use crate::tables::tables_in;
 use std::alloc::Global;
+use xf_lex::{LineFault, Scan};
 use xf_types::{Call, Flow, NoMemory};
 
 /// What a line asks for.

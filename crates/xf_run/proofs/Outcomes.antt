@@ -10,7 +10,7 @@ use Rattle.xf_types.specs.declared.status.Status.TheVariants as status
 use Rattle.xf_types.specs.Batch.{Line}
 use Rattle.xf_run.specs.declared.batch.BadLine.{BadLine as Bad}
 use Rattle.xf_run.specs.declared.batch.CallLine.{CallLine}
-use Rattle.xf_read.specs.LogicalLines.{lines_of}
+use Rattle.xf_lex.specs.LogicalLines.{lines_of}
 use Rattle.xf_run.specs.Batch.{limit, batch_from, batch_of}
 use Rattle.xf_run.specs.Outcome.{Outcome, MemoryRanOut}
 use Rattle.xf_run.specs.Progress.{Ends, Reports}

@@ -9,7 +9,7 @@ use Rattle.xf_plain.specs.Built.{is_built}
 use Rattle.xf_read.specs.declared.reader.Item.{Item}
 use Rattle.xf_read.specs.declared.reader.Item.TheVariants as item
 use Rattle.xf_read.specs.Items.{line_item}
-use Rattle.xf_read.specs.LogicalLines.{lines_of, physical_lines}
+use Rattle.xf_lex.specs.LogicalLines.{lines_of, physical_lines}
 use Rattle.xf_run.specs.declared.batch.BadLine.{BadLine}
 
 -- how many bytes the input may have

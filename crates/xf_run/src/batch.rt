@@ -9,8 +9,9 @@ ghost use Rattle.xf_run.specs.Shown.{line_of, lines_shown};
 ghost use Rattle.xf_run.specs.declared.batch.BatchFault.TheVariants.{Memory as BatchMemory};
 
 use std::alloc::{AllocFailed, Global};
+use xf_lex::{count_physical, split_line};
 use xf_plain::is_built;
-use xf_read::{Item, ReadFault, Reader, count_physical, split_line};
+use xf_read::{Item, ReadFault, Reader};
 use xf_types::{Call, Reason};
 
 /// A call with the number of its line.

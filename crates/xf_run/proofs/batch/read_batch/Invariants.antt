@@ -1,7 +1,7 @@
 use Rattle.std.proofs.Common.{◌≡◌, ◌≤◌, ◌+◌, length, take, All, [], min}
 use Rattle.xf_plain.specs.Built.{IsBuilt}
 use Rattle.xf_run.specs.Batch.{batch_from, limit}
-use Rattle.xf_read.specs.LogicalLines.{lines_of}
+use Rattle.xf_lex.specs.LogicalLines.{lines_of}
 use Rattle.xf_run.specs.Shown.{lines_shown}
 use Rattle.xf_run.proofs.batch.read_batch.Given as goal
 

@@ -1,7 +1,7 @@
 use Rattle.std.proofs.Common.{◌≡◌, drop}
 use Rattle.xf_read.specs.Grammar.{after_words, start}
 use Rattle.xf_read.specs.Seen.{seen}
-use Rattle.xf_read.specs.Shown.{shown}
+use Rattle.xf_lex.specs.Shown.{shown}
 use Rattle.xf_read.proofs.fields.Progress.read_fields.Given as goal
 
 abbrev pub invariant-words : goal.invariant-words

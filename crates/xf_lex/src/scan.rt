@@ -1,11 +1,14 @@
 //! The words of a logical line, or its fault.
-ghost use Rattle.std.specs.Prelude.{◌≡◌, ◌≤◌, OnOk};
-ghost use Rattle.xf_read.specs.Gives.{Gives};
-ghost use Rattle.xf_read.specs.Lines.{line_start, scan_turn, finished, words_of};
-ghost use Rattle.xf_read.specs.Shown.{shown, scanned};
+ghost use Rattle.std.specs.Prelude.{◌≡◌, ◌≤◌, ◌<◌, ◌+◌, length, OnOk};
+ghost use Rattle.xf_lex.specs.Gives.{Gives};
+ghost use Rattle.xf_lex.specs.Lines.{line_start, scan_turn, run_turn, finished, words_of};
+ghost use Rattle.xf_lex.specs.Quotes.{plain_count};
+ghost use Rattle.xf_lex.specs.declared.quoting.Quoting.TheVariants.{Bare};
+ghost use Rattle.xf_lex.specs.Shown.{shown, scanned};
 
 use crate::fault::LineFault;
 use crate::lexer::Lexer;
+use crate::quoting::{Quoting, plain_count};
 use std::alloc::{AllocError, Global};
 use xf_types::Reason;
 
@@ -14,7 +17,7 @@ const LINE_LIMIT: u32 = 4096;
 
 /// What is known of the line so far.
 #[derive(Debug, Drop)]
-pub(crate) struct Scan {
+pub struct Scan {
     pub lexer: Lexer,
     pub length: u32,
     pub strange: bool,
@@ -54,6 +57,29 @@ impl Scan {
         self.lexer.turn(alloc, byte)
     }
 
+    // How many bytes may be taken together: those that go on with a word outside quotes, while the line isn't long.
+    fn run_length(&self, rest: &[u8]) -> usize
+        requires { self.now.length ≤ 4096 }
+        ensures few { result ≤ plain_count rest.now }
+        ensures within { result ≤ length rest.now }
+        ensures room { self.now.length + result ≤ 4096 }
+        ensures bare { 0 < result → self.now.lexer.quoting ≡ Bare }
+    {
+        match self.lexer.quoting {
+            Quoting::Bare => plain_count(rest).min((LINE_LIMIT - self.length) as usize),
+            _ => 0,
+        }
+    }
+
+    fn take_run(&mut self, alloc: Global, run: &[u8]) -> Result<(), AllocError>
+        requires room { self.old.length + length run.now ≤ 4096 }
+        ensures { OnOk result (scanned self.new ≡ run_turn (scanned self.old) run.now) }
+    {
+        self.length += run.len() as u32;
+        self.joined = false;
+        self.lexer.extend(alloc, run)
+    }
+
     fn finish(&mut self) -> Result<(), LineFault>
         ensures { Gives (λ _. shown self.new.lexer.words.items) result (finished (scanned self.old)) }
     {
@@ -76,10 +102,19 @@ impl Scan {
         ensures { Gives (λ _. shown self.new.lexer.words.items) result (words_of bytes.now) }
     {
         self.reset()?;
-        'bytes: for byte in bytes {
-            self.turn(alloc, *byte)?;
-            if self.length > LINE_LIMIT {
-                return Err(LineFault::Bad(Reason::Long));
+        let mut rest = bytes;
+        'bytes: while let [byte, after @ ..] = rest {
+            let count = self.run_length(rest);
+            if count > 0 {
+                let (run, more) = rest.split_at(count);
+                self.take_run(alloc, run)?;
+                rest = more;
+            } else {
+                self.turn(alloc, *byte)?;
+                if self.length > LINE_LIMIT {
+                    return Err(LineFault::Bad(Reason::Long));
+                }
+                rest = after;
             }
         }
         self.finish()

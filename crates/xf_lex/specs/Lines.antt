@@ -1,9 +1,9 @@
 -- The words of a logical line, or its fault: long first, then byte, cut and quote.
-use Rattle.std.specs.Prelude.{ℕ, ◌+◌, Bool, false, ◌==◌, ◌&&◌, ◌||◌, nat_lt, if◌then◌else◌, List, [], ◌∷◌, Result, Ok, Err}
+use Rattle.std.specs.Prelude.{ℕ, ◌+◌, Bool, false, ◌==◌, ◌&&◌, ◌||◌, nat_lt, if◌then◌else◌, List, [], ◌∷◌, length, Result, Ok, Err}
 use Rattle.xf_types.specs.declared.status.Reason.{Reason}
 use Rattle.xf_types.specs.declared.status.Reason.TheVariants.{Byte, Long, Quote, Cut}
-use Rattle.xf_read.specs.Quotes.{is_slash, is_open, counted, is_strange}
-use Rattle.xf_read.specs.Lexing.{Word, Lexed, start, closed, turn}
+use Rattle.xf_lex.specs.Quotes.{is_slash, is_open, counted, is_strange}
+use Rattle.xf_lex.specs.Lexing.{Word, Lexed, start, closed, extended, turn}
 
 -- how many bytes a logical line may have
 abbrev pub line_limit : ℕ
@@ -27,6 +27,15 @@ scan_turn s b = record {
   length = s.length + counted s.lexed.quoting b;
   strange = s.strange || is_strange s.lexed.quoting b;
   joined = is_slash s.lexed.quoting && (b == 10);
+}
+
+-- bytes that go on with a word outside quotes, taken together
+abbrev pub run_turn : Scanned → List ℕ → Scanned
+run_turn s run = record {
+  lexed = extended s.lexed run;
+  length = s.length + length run;
+  strange = s.strange;
+  joined = false;
 }
 
 -- A line that ends where another one is joined is cut, and so is one that ends in a backslash.

@@ -2,10 +2,10 @@
 use Rattle.std.specs.Prelude.{ℕ, List, map}
 use Rattle.std.specs.Option.{option_map}
 use Rattle.std.specs.Global.{Vec}
-use Rattle.xf_read.specs.declared.lexer.Lexer.{Lexer}
-use Rattle.xf_read.specs.declared.scan.Scan.{Scan}
-use Rattle.xf_read.specs.Lexing.{Lexed}
-use Rattle.xf_read.specs.Lines.{Scanned}
+use Rattle.xf_lex.specs.declared.lexer.Lexer.{Lexer}
+use Rattle.xf_lex.specs.declared.scan.Scan.{Scan}
+use Rattle.xf_lex.specs.Lexing.{Lexed}
+use Rattle.xf_lex.specs.Lines.{Scanned}
 
 -- the words of a list
 abbrev pub shown : List (Vec ℕ) → List (List ℕ)

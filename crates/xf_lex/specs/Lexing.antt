@@ -1,7 +1,7 @@
 -- The words of a logical line, byte by byte.
-use Rattle.std.specs.Prelude.{ℕ, Bool, ◌==◌, ◌||◌, if◌then◌else◌, List, [], ◌∷◌, ◌++◌, Option, None, Some}
-use Rattle.xf_read.specs.declared.quoting.Quoting.{Quoting}
-use Rattle.xf_read.specs.declared.quoting.Quoting.TheVariants.{Bare, Single, Double, Comment, BareSlash, SingleSlash, DoubleSlash}
+use Rattle.std.specs.Prelude.{ℕ, Bool, ◌==◌, ◌||◌, if◌then◌else◌, List, [], ◌∷◌, ◌++◌, Option, None, Some, unwrap_or}
+use Rattle.xf_lex.specs.declared.quoting.Quoting.{Quoting}
+use Rattle.xf_lex.specs.declared.quoting.Quoting.TheVariants.{Bare, Single, Double, Comment, BareSlash, SingleSlash, DoubleSlash}
 
 -- a word is its bytes
 abbrev pub Word : Type 0
@@ -39,6 +39,10 @@ close s m = record { quoting = m; words = closed s.words s.word; word = None }
 -- the byte is the word's next
 abbrev pub keep : Lexed → Quoting → ℕ → Lexed
 keep s m b = record { quoting = m; words = s.words; word = onto s.word b }
+
+-- some bytes are the word's next
+abbrev pub extended : Lexed → List ℕ → Lexed
+extended s run = record { quoting = s.quoting; words = s.words; word = Some (unwrap_or s.word [] ++ run) }
 
 -- the byte is no part of a word
 abbrev pub turn_to : Lexed → Quoting → Lexed

@@ -1,7 +1,7 @@
 -- Where the bytes of a logical line stand, and what each of them counts for.
-use Rattle.std.specs.Prelude.{ℕ, Bool, true, false, ◌==◌, ◌&&◌, ◌||◌, not, nat_le, if◌then◌else◌}
-use Rattle.xf_read.specs.declared.quoting.Quoting.{Quoting}
-use Rattle.xf_read.specs.declared.quoting.Quoting.TheVariants.{Bare, Single, Double, Comment, BareSlash, SingleSlash, DoubleSlash}
+use Rattle.std.specs.Prelude.{ℕ, Bool, true, false, ◌==◌, ◌&&◌, ◌||◌, not, nat_le, if◌then◌else◌, ◌+◌, List, [], ◌∷◌}
+use Rattle.xf_lex.specs.declared.quoting.Quoting.{Quoting}
+use Rattle.xf_lex.specs.declared.quoting.Quoting.TheVariants.{Bare, Single, Double, Comment, BareSlash, SingleSlash, DoubleSlash}
 
 -- outside quotes: # begins a comment, a quote opens, and a backslash may join
 abbrev pub after_bare : ℕ → Quoting
@@ -71,3 +71,14 @@ is_strange Comment b = false
 is_strange BareSlash b = is_odd_byte b
 is_strange SingleSlash b = is_odd_byte b
 is_strange DoubleSlash b = is_odd_byte b
+
+-- a byte that outside quotes goes on with its word
+abbrev pub is_plain : ℕ → Bool
+is_plain b =
+    nat_le 33 b
+    && (nat_le b 126 && (not (b == 34) && (not (b == 35) && (not (b == 39) && not (b == 92)))))
+
+-- how many bytes from the first on do
+abbrev pub plain_count : List ℕ → ℕ
+plain_count [] = 0
+plain_count (b ∷ bs) = if is_plain b then 1 + plain_count bs else 0

@@ -1,7 +1,7 @@
 //! The words of a logical line, byte by byte.
 ghost use Rattle.std.specs.Prelude.{◌≡◌, [], IfOk};
-ghost use Rattle.xf_read.specs.Lexing.{is_blank, closed};
-ghost use Rattle.xf_read.specs.Shown.{shown};
+ghost use Rattle.xf_lex.specs.Lexing.{is_blank, closed};
+ghost use Rattle.xf_lex.specs.Shown.{shown};
 
 use crate::quoting::Quoting;
 use std::alloc::{AllocError, Global};
@@ -12,7 +12,7 @@ const WORD_ROOM: usize = 24;
 /// The words so far, and the one that is begun. A word that is begun may be empty, between quotes. Words of earlier lines
 /// are kept aside, so that their memory serves again.
 #[derive(Debug, Drop)]
-pub(crate) struct Lexer {
+pub struct Lexer {
     pub quoting: Quoting,
     pub words: Vec<Vec<u8>>,
     pub word: Option<Vec<u8>>,
@@ -27,8 +27,8 @@ fn is_blank(byte: u8) -> bool
 
 impl Lexer {
     ghost use Rattle.std.specs.Prelude.{OnOk};
-    ghost use Rattle.xf_read.specs.Lexing.{start, close, keep, turn_to, open_quote, bare_turn, single_turn, double_turn, turn};
-    ghost use Rattle.xf_read.specs.Shown.{heard};
+    ghost use Rattle.xf_lex.specs.Lexing.{start, close, keep, extended, turn_to, open_quote, bare_turn, single_turn, double_turn, turn};
+    ghost use Rattle.xf_lex.specs.Shown.{heard};
 
     pub fn new(alloc: Global) -> Lexer
         ensures { heard result ≡ start }
@@ -84,6 +84,21 @@ impl Lexer {
             None => {
                 let mut word = self.empty_word(alloc)?;
                 word.push(byte)?;
+                self.word = Some(word);
+            }
+        }
+        Ok(())
+    }
+
+    /// Goes on with the word by some bytes, or begins it.
+    pub fn extend(&mut self, alloc: Global, run: &[u8]) -> Result<(), AllocError>
+        ensures { OnOk result (heard self.new ≡ extended (heard self.old) run.now) }
+    {
+        match &mut self.word {
+            Some(word) => word.extend_from_slice(run)?,
+            None => {
+                let mut word = self.empty_word(alloc)?;
+                word.extend_from_slice(run)?;
                 self.word = Some(word);
             }
         }
