@@ -5,10 +5,13 @@ mod call;
 mod fault;
 mod fields;
 mod head;
+mod identity;
 mod keyword;
 mod lexer;
 mod lookup;
+mod mark;
 mod number;
+mod packet;
 mod policy;
 mod quoting;
 mod reader;
@@ -16,6 +19,8 @@ mod row;
 mod scan;
 mod selector;
 mod split;
+mod state;
+mod state_tables;
 mod tables;
 mod thresholds;
 mod values;
@@ -26,3 +31,11 @@ pub use split::{count_physical, split_line};
 
 #[cfg(test)]
 mod tests;
+#[cfg(test)]
+mod tests_bad_policies;
+#[cfg(test)]
+mod tests_bad_states;
+#[cfg(test)]
+mod tests_policies;
+#[cfg(test)]
+mod tests_states;
