@@ -1,10 +1,9 @@
 -- From fields to calls.
-use Rattle.std.specs.Prelude.{ℕ, ◌^◌, ◌-◌, if◌then◌else◌, List, [], Option, None, Some, unwrap_or, Result, Ok, Err}
+use Rattle.std.specs.Prelude.{ℕ, if◌then◌else◌, List, [], Option, None, Some, unwrap_or, Result, Ok, Err}
 use Rattle.xf_types.specs.declared.call.Call.{Call}
 use Rattle.xf_types.specs.declared.call.Call.TheVariants as call
 use Rattle.xf_types.specs.declared.network.Dir.{Dir}
 use Rattle.xf_types.specs.declared.network.Flow.{Flow}
-use Rattle.xf_types.specs.declared.network.Mark.{Mark}
 use Rattle.xf_types.specs.declared.network.Ptype.TheVariants.{Main}
 use Rattle.xf_types.specs.declared.policy.Action.TheVariants.{Allow}
 use Rattle.xf_types.specs.declared.policy.Limits.{Limits}
@@ -20,20 +19,14 @@ use Rattle.xf_read.specs.declared.policy.TheConstants.{SAME_SLOTS}
 use Rattle.xf_read.specs.declared.row.Field.{Field}
 use Rattle.xf_read.specs.declared.row.Slot.TheVariants as slot
 use Rattle.xf_read.specs.Grammar.{◌>>=◌}
-use Rattle.xf_read.specs.Lookups.{value_at, has_any, u8_at, u32_at, u64_at, addr_at, prefix_at_slot, dir_in, ptype_in, action_in, required}
+use Rattle.xf_read.specs.Lookups.{own, value_at, has_any, u8_at, u32_at, u64_at, addr_at, prefix_at_slot, dir_in, ptype_in, action_in, ipsec_in, required}
+use Rattle.xf_read.specs.Marks.{mark_of}
+use Rattle.xf_read.specs.Packets.{packet_of}
+use Rattle.xf_read.specs.States.{sa_of, sa_id_of, sa_filter_of}
 use Rattle.xf_read.specs.Thresholds.{thresholds_of, some_thresholds}
 use Rattle.xf_read.specs.Selectors.{source_port, dest_port, judged_ports, judged_family, judged_families, proto_of, selector_of, given_end}
 
 -- ---- parts of policies
-
--- a mark without a mask is compared whole, and no mark masks all away
-abbrev pub mark_by : Option ℕ → Option ℕ → Mark
-mark_by None mask = record { value = 0; mask = 0 }
-mark_by (Some value) mask = record { value = value; mask = unwrap_or mask (2 ^ 32 - 1) }
-
--- the line's mark
-abbrev pub mark_of : List Field → Mark
-mark_of fs = mark_by (u32_at slot.Mark fs) (u32_at slot.Mask fs)
 
 -- a time of 0 is no limit; a byte or packet limit of 0 is a limit
 unfoldable pub limits_of : List Field → Limits
@@ -54,7 +47,7 @@ limits_of fs = record {
 unfoldable pub spec_of : List Field → Result PolicySpec Reason
 spec_of fs = do
   dir ← required (dir_in fs)
-  sel ← selector_of fs
+  sel ← selector_of own fs
   Ok (record {
     dir = dir;
     ptype = unwrap_or (ptype_in fs) Main;
@@ -77,7 +70,7 @@ index_key dir index fs = if has_any SAME_SLOTS fs then Err Mixed else Ok (key.In
 -- without an index the policy is named by what makes two policies the same
 unfoldable pub same_key : Dir → List Field → Result PolicyKey Reason
 same_key dir fs = do
-  sel ← selector_of fs
+  sel ← selector_of own fs
   Ok (key.Same dir (unwrap_or (ptype_in fs) Main) sel (mark_of fs) (unwrap_or (u32_at slot.IfId fs) 0))
 
 -- by an index, or without one
@@ -96,10 +89,10 @@ key_of fs = do
 -- each word that is given is a condition
 unfoldable pub filter_of : List Field → Result PolicyFilter Reason
 filter_of fs = do
-  sport ← source_port fs
-  dport ← dest_port fs
+  sport ← source_port own fs
+  dport ← dest_port own fs
   _ ← judged_families (prefix_at_slot slot.Src fs) (prefix_at_slot slot.Dst fs)
-  _ ← judged_ports fs
+  _ ← judged_ports own fs
   Ok (record {
     dir = dir_in fs;
     ptype = ptype_in fs;
@@ -120,15 +113,15 @@ unfoldable pub flow_of : Dir → List Field → Result Flow Reason
 flow_of dir fs = do
   src ← required (addr_at slot.Src fs)
   dst ← required (addr_at slot.Dst fs)
-  sport ← source_port fs
-  dport ← dest_port fs
+  sport ← source_port own fs
+  dport ← dest_port own fs
   _ ← judged_family src dst
-  _ ← judged_ports fs
+  _ ← judged_ports own fs
   Ok (record {
     dir = dir;
     src = src;
     dst = dst;
-    proto = proto_of fs;
+    proto = proto_of own fs;
     sport = unwrap_or sport 0;
     dport = unwrap_or dport 0;
     mark = unwrap_or (u32_at slot.Mark fs) 0;
@@ -148,4 +141,13 @@ call_of head.PolicyList fs = filter_of fs >>= λ filter. Ok (call.PolicyList fil
 call_of head.PolicyFlush fs = Ok (call.PolicyFlush (ptype_in fs))
 call_of head.PolicyCount fs = Ok call.PolicyCount
 call_of head.PolicySet fs = some_thresholds (thresholds_of fs) >>= λ t. Ok (call.PolicySet t)
+call_of head.StateAdd fs = sa_of fs >>= λ spec. Ok (call.StateAdd spec)
+call_of head.StateUpdate fs = sa_of fs >>= λ spec. Ok (call.StateUpdate spec)
+call_of head.StateDelete fs = sa_id_of fs >>= λ id. Ok (call.StateDelete id)
+call_of head.StateGet fs = sa_id_of fs >>= λ id. Ok (call.StateGet id)
+call_of head.StateDeleteAll fs = sa_filter_of fs >>= λ filter. Ok (call.StateDeleteAll filter)
+call_of head.StateList fs = sa_filter_of fs >>= λ filter. Ok (call.StateList filter)
+call_of head.StateFlush fs = Ok (call.StateFlush (ipsec_in fs))
+call_of head.StateCount fs = Ok call.StateCount
 call_of (head.Flow dir) fs = flow_of dir fs >>= λ flow. Ok (call.Flow flow)
+call_of head.Packet fs = packet_of fs >>= λ packet. Ok (call.Packet packet)

@@ -1,5 +1,5 @@
 -- Reading the words after a head, by tables: the first word from the left that offends decides.
-use Rattle.std.specs.Prelude.{ℕ, ◌+◌, Bool, false, ◌==◌, ◌&&◌, ◌||◌, nat_le, if◌then◌else◌, List, [], ◌∷◌, ◌++◌, Option, None, Some, Result, Ok, Err}
+use Rattle.std.specs.Prelude.{ℕ, ◌+◌, Bool, true, false, ◌==◌, ◌&&◌, ◌||◌, nat_le, if◌then◌else◌, List, [], ◌∷◌, ◌++◌, Option, None, Some, Result, Ok, Err}
 use Rattle.std.specs.Str.{bytes_eq}
 use Rattle.xf_types.specs.declared.network.Addr.{Addr}
 use Rattle.xf_types.specs.declared.network.Prefix.{Prefix}
@@ -45,6 +45,9 @@ value_of_meaning meaning.Any = value.Any
 value_of_meaning (meaning.Dir dir) = value.Dir dir
 value_of_meaning (meaning.Ptype ptype) = value.Ptype ptype
 value_of_meaning (meaning.Action action) = value.Action action
+value_of_meaning (meaning.Proto proto) = value.Proto proto
+value_of_meaning (meaning.Mode mode) = value.Mode mode
+value_of_meaning (meaning.Bool x) = value.Bool x
 
 -- the word of a name
 abbrev pub name_word : Name → Keyword
@@ -125,7 +128,8 @@ take_value s a rest w = value_in a w >>= λ v. Ok (put s rest v)
 abbrev pub row_word : Row → Keyword
 row_word (row.Once word values next) = word
 row_word (row.Often word values next) = word
-row_word (row.Opens word values next most more) = word
+row_word (row.Kept word slot next) = word
+row_word (row.Opens word slot next most more) = word
 row_word (row.Unsupported word) = word
 
 -- the row of a word in a table
@@ -161,6 +165,10 @@ was_used (u ∷ us) group w = ((u.0 == group) && bytes_eq u.1 w) || was_used us 
 abbrev pub entered : Progress → ℕ → Args → Table → Progress
 entered s group values next = record s { group = group; following = next; pending = values }
 
+-- a word without a value was met: that it stands is kept
+abbrev pub kept : Progress → ℕ → Slot → Table → Progress
+kept s group slot next = put (entered s group args.None next) args.None (Some (slot, value.Bool true))
+
 -- a word that may stand once
 abbrev pub noted : Progress → ℕ → Word → Progress
 noted s group w = record s { used = s.used ++ (group, w) ∷ [] }
@@ -171,9 +179,10 @@ enter s group (row.Once word values next) =
     if was_used s.used group (text_of word) then Err reason.Repeated
     else Ok (entered (noted s group (text_of word)) group values next)
 enter s group (row.Often word values next) = Ok (entered s group values next)
-enter s group (row.Opens word values next most more) =
+enter s group (row.Kept word slot next) = Ok (kept s group slot next)
+enter s group (row.Opens word slot next most more) =
     if nat_le most s.opened then Err more
-    else Ok (entered (record s { opened = s.opened + 1 }) (s.opened + 1) values next)
+    else Ok (kept (record s { opened = s.opened + 1 }) (s.opened + 1) slot next)
 enter s group (row.Unsupported word) = Err reason.Unsupported
 
 -- a word is met that a table has, or not

@@ -7,5 +7,9 @@ pub mod Seen
 pub mod Lookups
 pub mod Selectors
 pub mod Thresholds
+pub mod Marks
+pub mod Identity
+pub mod States
+pub mod Packets
 pub mod Calls
 pub mod Items

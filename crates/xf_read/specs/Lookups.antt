@@ -4,8 +4,10 @@ use Rattle.std.specs.List.{list_any}
 use Rattle.xf_types.specs.declared.network.Addr.{Addr}
 use Rattle.xf_types.specs.declared.network.Dir.{Dir}
 use Rattle.xf_types.specs.declared.network.Prefix.{Prefix}
+use Rattle.xf_types.specs.declared.network.Proto.{Proto}
 use Rattle.xf_types.specs.declared.network.Ptype.{Ptype}
 use Rattle.xf_types.specs.declared.policy.Action.{Action}
+use Rattle.xf_types.specs.declared.policy.Mode.{Mode}
 use Rattle.xf_types.specs.declared.status.Reason.{Reason}
 use Rattle.xf_types.specs.declared.status.Reason.TheVariants.{Missing}
 use Rattle.xf_read.specs.declared.row.Field.{Field}
@@ -43,19 +45,43 @@ slot_number slot.Local4 = 23
 slot_number slot.Remote4 = 24
 slot_number slot.Local6 = 25
 slot_number slot.Remote6 = 26
+slot_number slot.Spi = 27
+slot_number slot.Mode = 28
+slot_number slot.Reqid = 29
+slot_number slot.Seq = 30
+slot_number slot.ReplayWindow = 31
+slot_number slot.ReplaySeq = 32
+slot_number slot.ReplayOseq = 33
+slot_number slot.Wildrecv = 34
+slot_number slot.Sel = 35
+slot_number slot.IcvBits = 36
+slot_number slot.Len = 37
+slot_number slot.Icv = 38
 
--- the field is the line's own, and of this slot
-abbrev pub is_at : Slot → Field → Bool
-is_at slot f = (f.group == 0) && (slot_number f.slot == slot_number slot)
+-- the group of the line's own words
+abbrev pub own : ℕ
+own = 0
 
--- the value of a slot among the line's own fields, if it was given
+-- the field is of this group, and of this slot
+abbrev pub is_in : ℕ → Slot → Field → Bool
+is_in group slot f = (f.group == group) && (slot_number f.slot == slot_number slot)
+
+-- the value of a slot among the fields of a group, if it was given
+abbrev pub value_in_group : ℕ → Slot → List Field → Option Value
+value_in_group group slot [] = None
+value_in_group group slot (f ∷ fs) = if is_in group slot f then Some f.value else value_in_group group slot fs
+
+-- the value of a slot among the line's own fields
 abbrev pub value_at : Slot → List Field → Option Value
-value_at slot [] = None
-value_at slot (f ∷ fs) = if is_at slot f then Some f.value else value_at slot fs
+value_at slot fs = value_in_group own slot fs
 
--- the slot was given
+-- the slot was given in a group
+abbrev pub has_in_group : ℕ → Slot → List Field → Bool
+has_in_group group slot fs = is_some (value_in_group group slot fs)
+
+-- the slot was given among the line's own words
 abbrev pub has : Slot → List Field → Bool
-has slot fs = is_some (value_at slot fs)
+has slot fs = has_in_group own slot fs
 
 -- one of the slots was given
 abbrev pub has_any : List Slot → List Field → Bool
@@ -106,13 +132,36 @@ abbrev pub as_action : Option Value → Option Action
 as_action (Some (value.Action x)) = Some x
 as_action _ = None
 
+-- an IPsec protocol
+abbrev pub as_ipsec : Option Value → Option Proto
+as_ipsec (Some (value.Proto x)) = Some x
+as_ipsec _ = None
+
+-- a mode
+abbrev pub as_mode : Option Value → Option Mode
+as_mode (Some (value.Mode x)) = Some x
+as_mode _ = None
+
+-- a choice between two words
+abbrev pub as_bool : Option Value → Option Bool
+as_bool (Some (value.Bool x)) = Some x
+as_bool _ = None
+
+-- the number of 8 bits at a slot of a group
+abbrev pub u8_in_group : ℕ → Slot → List Field → Option ℕ
+u8_in_group group slot fs = as_u8 (value_in_group group slot fs)
+
+-- the number of 16 bits at a slot of a group
+abbrev pub u16_in_group : ℕ → Slot → List Field → Option ℕ
+u16_in_group group slot fs = as_u16 (value_in_group group slot fs)
+
+-- the prefix at a slot of a group, if it has a family of its own
+abbrev pub prefix_in_group : ℕ → Slot → List Field → Option Prefix
+prefix_in_group group slot fs = as_prefix (value_in_group group slot fs)
+
 -- the number of 8 bits at a slot
 abbrev pub u8_at : Slot → List Field → Option ℕ
-u8_at slot fs = as_u8 (value_at slot fs)
-
--- the number of 16 bits at a slot
-abbrev pub u16_at : Slot → List Field → Option ℕ
-u16_at slot fs = as_u16 (value_at slot fs)
+u8_at slot fs = u8_in_group own slot fs
 
 -- the number of 32 bits at a slot
 abbrev pub u32_at : Slot → List Field → Option ℕ
@@ -128,7 +177,7 @@ addr_at slot fs = as_addr (value_at slot fs)
 
 -- the prefix at a slot, if it has a family of its own
 abbrev pub prefix_at_slot : Slot → List Field → Option Prefix
-prefix_at_slot slot fs = as_prefix (value_at slot fs)
+prefix_at_slot slot fs = prefix_in_group own slot fs
 
 -- the line's direction
 abbrev pub dir_in : List Field → Option Dir
@@ -141,6 +190,18 @@ ptype_in fs = as_ptype (value_at slot.Ptype fs)
 -- the line's action
 abbrev pub action_in : List Field → Option Action
 action_in fs = as_action (value_at slot.Action fs)
+
+-- the line's IPsec protocol
+abbrev pub ipsec_in : List Field → Option Proto
+ipsec_in fs = as_ipsec (value_at slot.Proto fs)
+
+-- the line's mode
+abbrev pub mode_in : List Field → Option Mode
+mode_in fs = as_mode (value_at slot.Mode fs)
+
+-- whether the line's integrity check value is right
+abbrev pub icv_in : List Field → Option Bool
+icv_in fs = as_bool (value_at slot.Icv fs)
 
 -- a value that a line has to have
 abbrev pub required : {X : Type 0} → Option X → Result X Reason

@@ -1,4 +1,4 @@
--- From fields to selectors: ports and types, families, and what each protocol may have.
+-- From the fields of a group to selectors: ports and types, families, and what each protocol may have.
 use Rattle.std.specs.Prelude.{◌≡◌, refl, ℕ, Bool, ◌==◌, ◌&&◌, ◌||◌, not, if◌then◌else◌, List, Option, None, Some, unwrap_or, Result, Ok, Err}
 use Rattle.xf_types.specs.declared.network.Addr.{Addr}
 use Rattle.xf_types.specs.declared.network.Addr.TheVariants.{V4, V6}
@@ -12,7 +12,7 @@ use Rattle.xf_read.specs.declared.row.Field.{Field}
 use Rattle.xf_read.specs.declared.row.Slot.TheVariants as slot
 use Rattle.xf_read.specs.declared.row.Value.{Value}
 use Rattle.xf_read.specs.Grammar.{◌>>=◌}
-use Rattle.xf_read.specs.Lookups.{has, u8_at, u16_at, prefix_at_slot, as_prefix}
+use Rattle.xf_read.specs.Lookups.{has_in_group, u8_in_group, u16_in_group, prefix_in_group, as_prefix}
 
 -- ---- ports, and ICMP types and codes in their places
 
@@ -23,12 +23,12 @@ one_of (Some a) None = Ok (Some a)
 one_of (Some a) (Some b) = Err Mixed
 
 -- the source port, or the ICMP type
-abbrev pub source_port : List Field → Result (Option ℕ) Reason
-source_port fs = one_of (u16_at slot.SourcePort fs) (u16_at slot.IcmpType fs)
+abbrev pub source_port : ℕ → List Field → Result (Option ℕ) Reason
+source_port group fs = one_of (u16_in_group group slot.SourcePort fs) (u16_in_group group slot.IcmpType fs)
 
 -- the destination port, or the ICMP code
-abbrev pub dest_port : List Field → Result (Option ℕ) Reason
-dest_port fs = one_of (u16_at slot.DestPort fs) (u16_at slot.IcmpCode fs)
+abbrev pub dest_port : ℕ → List Field → Result (Option ℕ) Reason
+dest_port group fs = one_of (u16_in_group group slot.DestPort fs) (u16_in_group group slot.IcmpCode fs)
 
 -- TCP, UDP, DCCP and SCTP have ports
 abbrev pub carries_ports : ℕ → Bool
@@ -39,21 +39,21 @@ abbrev pub carries_types : ℕ → Bool
 carries_types proto = (proto == 1) || ((proto == 58) || (proto == 135))
 
 -- the protocol, 0 where it isn't given
-abbrev pub proto_of : List Field → ℕ
-proto_of fs = unwrap_or (u8_at slot.Proto fs) 0
+abbrev pub proto_of : ℕ → List Field → ℕ
+proto_of group fs = unwrap_or (u8_in_group group slot.Proto fs) 0
 
 -- a port is given
-abbrev pub has_port : List Field → Bool
-has_port fs = has slot.SourcePort fs || has slot.DestPort fs
+abbrev pub has_port : ℕ → List Field → Bool
+has_port group fs = has_in_group group slot.SourcePort fs || has_in_group group slot.DestPort fs
 
 -- an ICMP type or code is given
-abbrev pub has_type : List Field → Bool
-has_type fs = has slot.IcmpType fs || has slot.IcmpCode fs
+abbrev pub has_type : ℕ → List Field → Bool
+has_type group fs = has_in_group group slot.IcmpType fs || has_in_group group slot.IcmpCode fs
 
 -- what is given fits the protocol
-abbrev pub judged_ports : List Field → Result (Unit {0}) Reason
-judged_ports fs =
-    if (has_port fs && not (carries_ports (proto_of fs))) || (has_type fs && not (carries_types (proto_of fs)))
+abbrev pub judged_ports : ℕ → List Field → Result (Unit {0}) Reason
+judged_ports group fs =
+    if (has_port group fs && not (carries_ports (proto_of group fs))) || (has_type group fs && not (carries_types (proto_of group fs)))
     then Err Ports else Ok tt
 
 -- ---- families
@@ -84,6 +84,16 @@ one_family (V6 a) (V4 b) = Err Family
 abbrev pub judged_family : Addr → Addr → Result (Unit {0}) Reason
 judged_family a b = if family_of a == family_of b then Ok tt else Err Family
 
+-- two addresses that may be left out have one family
+abbrev pub judged_ends : Option Addr → Option Addr → Result (Unit {0}) Reason
+judged_ends None other = Ok tt
+judged_ends (Some a) None = Ok tt
+judged_ends (Some a) (Some b) = judged_family a b
+
+-- a source that is left out is the zero address of the destination's family
+abbrev pub source_or_zero : Option Addr → Addr → Addr
+source_or_zero src dst = unwrap_or src (zero_of dst)
+
 -- two prefixes that may be left out have one family
 abbrev pub judged_families : Option Prefix → Option Prefix → Result (Unit {0}) Reason
 judged_families None other = Ok tt
@@ -105,21 +115,26 @@ selector_between src dst proto sport dport =
     })
 
 -- the source prefix
-abbrev pub src_of : List Field → Prefix
-src_of fs = end_or (prefix_at_slot slot.Src fs) (prefix_at_slot slot.Dst fs)
+abbrev pub src_of : ℕ → List Field → Prefix
+src_of group fs = end_or (prefix_in_group group slot.Src fs) (prefix_in_group group slot.Dst fs)
 
 -- the destination prefix
-abbrev pub dst_of : List Field → Prefix
-dst_of fs = end_or (prefix_at_slot slot.Dst fs) (prefix_at_slot slot.Src fs)
+abbrev pub dst_of : ℕ → List Field → Prefix
+dst_of group fs = end_or (prefix_in_group group slot.Dst fs) (prefix_in_group group slot.Src fs)
 
--- the line's selector
-unfoldable pub selector_of : List Field → Result Selector Reason
-selector_of fs = do
-  sport ← source_port fs
-  dport ← dest_port fs
-  sel ← selector_between (src_of fs) (dst_of fs) (proto_of fs) sport dport
-  _ ← judged_ports fs
+-- the selector of a group, once its ports are known
+unfoldable pub selector_with : ℕ → Option ℕ → Option ℕ → List Field → Result Selector Reason
+selector_with group sport dport fs = do
+  sel ← selector_between (src_of group fs) (dst_of group fs) (proto_of group fs) sport dport
+  _ ← judged_ports group fs
   Ok sel
+
+-- the selector of a group
+unfoldable pub selector_of : ℕ → List Field → Result Selector Reason
+selector_of group fs = do
+  sport ← source_port group fs
+  dport ← dest_port group fs
+  selector_with group sport dport fs
 
 -- a prefix that is a condition where it is given
 abbrev pub given_end : Option Value → Option Prefix → Option Prefix

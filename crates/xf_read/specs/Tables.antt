@@ -8,6 +8,7 @@ use Rattle.xf_read.specs.declared.row.Names.TheVariants as names
 use Rattle.xf_read.specs.declared.row.Row.{Row}
 use Rattle.xf_read.specs.declared.row.Table.{Table}
 use Rattle.xf_read.specs.declared.row.Table.TheVariants as table
+use Rattle.xf_read.specs.declared.state_tables.TheConstants as state
 use Rattle.xf_read.specs.declared.tables.TheConstants as constant
 
 -- the names of a list
@@ -19,6 +20,10 @@ names_of names.Actions = constant.ACTIONS
 names_of names.Protocols = constant.PROTOCOLS
 names_of names.Headers = constant.HEADERS
 names_of names.Anys = constant.ANYS
+names_of names.StateProtocols = state.STATE_PROTOCOLS
+names_of names.PacketProtocols = state.PACKET_PROTOCOLS
+names_of names.Modes = state.MODES
+names_of names.Icvs = state.ICVS
 
 -- the rows of a table
 abbrev pub rows_of : Table → List Row
@@ -35,6 +40,14 @@ rows_of table.PolicyFlags = constant.POLICY_FLAGS
 rows_of table.Limits = constant.LIMITS
 rows_of table.Refused = constant.REFUSED
 rows_of table.Unbuilt = constant.UNBUILT
+rows_of table.StateSpec = state.STATE_SPEC
+rows_of table.StateId = state.STATE_ID
+rows_of table.StateFilter = state.STATE_FILTER
+rows_of table.StateKind = state.STATE_KIND
+rows_of table.StateFlags = state.STATE_FLAGS
+rows_of table.StateUnbuilt = state.STATE_UNBUILT
+rows_of table.StateRefused = state.STATE_REFUSED
+rows_of table.Packet = state.PACKET
 
 -- the tables of a line's own words
 abbrev pub tables_of : Head → List Table
@@ -47,4 +60,13 @@ tables_of head.PolicyList = constant.FILTER_TABLES
 tables_of head.PolicyFlush = constant.FLUSH_TABLES
 tables_of head.PolicyCount = []
 tables_of head.PolicySet = constant.SET_TABLES
+tables_of head.StateAdd = constant.STATE_SPEC_TABLES
+tables_of head.StateUpdate = constant.STATE_SPEC_TABLES
+tables_of head.StateDelete = constant.STATE_ID_TABLES
+tables_of head.StateGet = constant.STATE_ID_TABLES
+tables_of head.StateDeleteAll = constant.STATE_FILTER_TABLES
+tables_of head.StateList = constant.STATE_FILTER_TABLES
+tables_of head.StateFlush = constant.STATE_FLUSH_TABLES
+tables_of head.StateCount = []
 tables_of (head.Flow dir) = constant.FLOW_TABLES
+tables_of head.Packet = constant.PACKET_TABLES

@@ -41,6 +41,7 @@ impl Row {
         match self {
             Row::Once(word, _, _) => word,
             Row::Often(word, _, _) => word,
+            Row::Kept(word, _, _) => word,
             Row::Opens(word, _, _, _, _) => word,
             Row::Unsupported(word) => word,
         }
@@ -82,7 +83,7 @@ fn is_used(used: &[Used], group: u32, word: &[u8]) -> bool
 
 impl Progress {
     ghost use Rattle.std.specs.Prelude.{Ok, IfSome};
-    ghost use Rattle.xf_read.specs.Grammar.{start, put, take_value, entered, enter, enter_found};
+    ghost use Rattle.xf_read.specs.Grammar.{start, put, take_value, entered, kept, enter, enter_found};
 
     pub fn new(alloc: Global) -> Progress
         ensures { seen result ≡ start }
@@ -140,6 +141,14 @@ impl Progress {
         self.pending = values;
     }
 
+    // A word without a value was met in this group: that it stands is kept.
+    fn keep(&mut self, group: u32, slot: Slot, next: Table) -> Result<(), LineFault>
+        ensures { Gives (λ _. seen self.new) result (Ok (kept (seen self.old) group slot next)) }
+    {
+        self.enter_row(group, Args::None, next);
+        self.put(Args::None, Some((slot, Value::Bool(true))))
+    }
+
     // A row's word was met in this group.
     #[tactic(auto, unfolding(crate::specs::Grammar::enter))]
     fn enter(&mut self, group: u32, row: Row) -> Result<(), LineFault>
@@ -161,13 +170,13 @@ impl Progress {
                 self.enter_row(group, values, next);
                 Ok(())
             }
-            Row::Opens(_, values, next, most, more) => {
+            Row::Kept(_, slot, next) => self.keep(group, slot, next),
+            Row::Opens(_, slot, next, most, more) => {
                 if self.opened >= most {
                     return Err(LineFault::Bad(more));
                 }
                 self.opened += 1;
-                self.enter_row(self.opened, values, next);
-                Ok(())
+                self.keep(self.opened, slot, next)
             }
             Row::Unsupported(_) => Err(LineFault::Bad(Reason::Unsupported)),
         }

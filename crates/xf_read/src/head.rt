@@ -19,7 +19,16 @@ pub(crate) enum Head {
     PolicyFlush,
     PolicyCount,
     PolicySet,
+    StateAdd,
+    StateUpdate,
+    StateDelete,
+    StateGet,
+    StateDeleteAll,
+    StateList,
+    StateFlush,
+    StateCount,
     Flow(Dir),
+    Packet,
 }
 
 /// A word of a head: it leads to a table of further words, or ends the head.
@@ -44,7 +53,7 @@ pub(crate) static START: [HeadRow; 7] = [
     HeadRow::Leads(Keyword::Xfrm, HeadTable::Xfrm),
     HeadRow::Leads(Keyword::Flow, HeadTable::Flow),
     HeadRow::Unsupported(Keyword::Send),
-    HeadRow::Unsupported(Keyword::Packet),
+    HeadRow::Ends(Keyword::Packet, Head::Packet),
     HeadRow::Unsupported(Keyword::Tick),
     HeadRow::Unsupported(Keyword::Worker),
     HeadRow::Unsupported(Keyword::Sync),
@@ -74,19 +83,18 @@ pub(crate) static POLICY: [HeadRow; 14] = [
     HeadRow::Unsupported(Keyword::GetDefault),
 ];
 
-// None of these is built yet.
 pub(crate) static STATE: [HeadRow; 12] = [
-    HeadRow::Unsupported(Keyword::Add),
-    HeadRow::Unsupported(Keyword::Update),
-    HeadRow::Unsupported(Keyword::Delete),
-    HeadRow::Unsupported(Keyword::Del),
-    HeadRow::Unsupported(Keyword::Get),
-    HeadRow::Unsupported(Keyword::DeleteAll),
-    HeadRow::Unsupported(Keyword::List),
-    HeadRow::Unsupported(Keyword::Show),
-    HeadRow::Unsupported(Keyword::Ls),
-    HeadRow::Unsupported(Keyword::Flush),
-    HeadRow::Unsupported(Keyword::Count),
+    HeadRow::Ends(Keyword::Add, Head::StateAdd),
+    HeadRow::Ends(Keyword::Update, Head::StateUpdate),
+    HeadRow::Ends(Keyword::Delete, Head::StateDelete),
+    HeadRow::Ends(Keyword::Del, Head::StateDelete),
+    HeadRow::Ends(Keyword::Get, Head::StateGet),
+    HeadRow::Ends(Keyword::DeleteAll, Head::StateDeleteAll),
+    HeadRow::Ends(Keyword::List, Head::StateList),
+    HeadRow::Ends(Keyword::Show, Head::StateList),
+    HeadRow::Ends(Keyword::Ls, Head::StateList),
+    HeadRow::Ends(Keyword::Flush, Head::StateFlush),
+    HeadRow::Ends(Keyword::Count, Head::StateCount),
     HeadRow::Unsupported(Keyword::AllocSpi),
 ];
 

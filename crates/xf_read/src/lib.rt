@@ -5,13 +5,18 @@ mod call;
 mod fault;
 mod fields;
 mod head;
+mod identity;
 mod keyword;
 mod lookup;
+mod mark;
 mod number;
+mod packet;
 mod policy;
 mod reader;
 mod row;
 mod selector;
+mod state;
+mod state_tables;
 mod tables;
 mod thresholds;
 mod values;
@@ -21,3 +26,11 @@ pub use reader::{Item, Reader};
 
 #[cfg(test)]
 mod tests;
+#[cfg(test)]
+mod tests_bad_policies;
+#[cfg(test)]
+mod tests_bad_states;
+#[cfg(test)]
+mod tests_policies;
+#[cfg(test)]
+mod tests_states;

@@ -3,7 +3,7 @@ ghost use Rattle.std.specs.Prelude.{◌≡◌, ◌<◌};
 ghost use Rattle.xf_read.specs.Lookups as found;
 
 use crate::row::{Field, Slot, Value};
-use xf_types::{Action, Addr, Dir, Prefix, Ptype, Reason};
+use xf_types::{Action, Addr, Dir, Mode, Prefix, Proto, Ptype};
 
 impl Slot {
     ghost use Rattle.xf_read.specs.Lookups.{slot_number};
@@ -40,20 +40,48 @@ impl Slot {
             Slot::Remote4 => 24,
             Slot::Local6 => 25,
             Slot::Remote6 => 26,
+            Slot::Spi => 27,
+            Slot::Mode => 28,
+            Slot::Reqid => 29,
+            Slot::Seq => 30,
+            Slot::ReplayWindow => 31,
+            Slot::ReplaySeq => 32,
+            Slot::ReplayOseq => 33,
+            Slot::Wildrecv => 34,
+            Slot::Sel => 35,
+            Slot::IcvBits => 36,
+            Slot::Len => 37,
+            Slot::Icv => 38,
         }
     }
+}
+
+/// The group of the line's own words.
+pub(crate) const OWN: u32 = 0;
+
+/// The value of a slot among the fields of a group.
+pub(crate) fn value_in_group(fields: &[Field], group: u32, slot: Slot) -> Option<Value>
+    ensures { result ≡ found.value_in_group group slot fields.now }
+{
+    for field in fields {
+        if field.group == group && field.slot.number() == slot.number() {
+            return Some(field.value);
+        }
+    }
+    None
 }
 
 /// The value of a slot among the line's own fields.
 pub(crate) fn value_at(fields: &[Field], slot: Slot) -> Option<Value>
     ensures { result ≡ found.value_at slot fields.now }
 {
-    for field in fields {
-        if field.group == 0 && field.slot.number() == slot.number() {
-            return Some(field.value);
-        }
-    }
-    None
+    value_in_group(fields, OWN, slot)
+}
+
+pub(crate) fn has_in_group(fields: &[Field], group: u32, slot: Slot) -> bool
+    ensures { result ≡ found.has_in_group group slot fields.now }
+{
+    value_in_group(fields, group, slot).is_some()
 }
 
 pub(crate) fn has(fields: &[Field], slot: Slot) -> bool
@@ -74,22 +102,37 @@ pub(crate) fn has_any(fields: &[Field], slots: &[Slot]) -> bool
     false
 }
 
-pub(crate) fn u8_at(fields: &[Field], slot: Slot) -> Option<u8>
-    ensures { result ≡ found.u8_at slot fields.now }
+pub(crate) fn u8_in_group(fields: &[Field], group: u32, slot: Slot) -> Option<u8>
+    ensures { result ≡ found.u8_in_group group slot fields.now }
 {
-    match value_at(fields, slot) {
+    match value_in_group(fields, group, slot) {
         Some(Value::U8(x)) => Some(x),
         _ => None,
     }
 }
 
-pub(crate) fn u16_at(fields: &[Field], slot: Slot) -> Option<u16>
-    ensures { result ≡ found.u16_at slot fields.now }
+pub(crate) fn u16_in_group(fields: &[Field], group: u32, slot: Slot) -> Option<u16>
+    ensures { result ≡ found.u16_in_group group slot fields.now }
 {
-    match value_at(fields, slot) {
+    match value_in_group(fields, group, slot) {
         Some(Value::U16(x)) => Some(x),
         _ => None,
     }
+}
+
+pub(crate) fn prefix_in_group(fields: &[Field], group: u32, slot: Slot) -> Option<Prefix>
+    ensures { result ≡ found.prefix_in_group group slot fields.now }
+{
+    match value_in_group(fields, group, slot) {
+        Some(Value::Prefix(x)) => Some(x),
+        _ => None,
+    }
+}
+
+pub(crate) fn u8_at(fields: &[Field], slot: Slot) -> Option<u8>
+    ensures { result ≡ found.u8_at slot fields.now }
+{
+    u8_in_group(fields, OWN, slot)
 }
 
 pub(crate) fn u32_at(fields: &[Field], slot: Slot) -> Option<u32>
@@ -122,10 +165,7 @@ pub(crate) fn addr_at(fields: &[Field], slot: Slot) -> Option<Addr>
 pub(crate) fn prefix_at(fields: &[Field], slot: Slot) -> Option<Prefix>
     ensures { result ≡ found.prefix_at_slot slot fields.now }
 {
-    match value_at(fields, slot) {
-        Some(Value::Prefix(x)) => Some(x),
-        _ => None,
-    }
+    prefix_in_group(fields, OWN, slot)
 }
 
 pub(crate) fn dir_in(fields: &[Field]) -> Option<Dir>
@@ -151,6 +191,33 @@ pub(crate) fn action_in(fields: &[Field]) -> Option<Action>
 {
     match value_at(fields, Slot::Action) {
         Some(Value::Action(x)) => Some(x),
+        _ => None,
+    }
+}
+
+pub(crate) fn ipsec_in(fields: &[Field]) -> Option<Proto>
+    ensures { result ≡ found.ipsec_in fields.now }
+{
+    match value_at(fields, Slot::Proto) {
+        Some(Value::Proto(x)) => Some(x),
+        _ => None,
+    }
+}
+
+pub(crate) fn mode_in(fields: &[Field]) -> Option<Mode>
+    ensures { result ≡ found.mode_in fields.now }
+{
+    match value_at(fields, Slot::Mode) {
+        Some(Value::Mode(x)) => Some(x),
+        _ => None,
+    }
+}
+
+pub(crate) fn icv_in(fields: &[Field]) -> Option<bool>
+    ensures { result ≡ found.icv_in fields.now }
+{
+    match value_at(fields, Slot::Icv) {
+        Some(Value::Bool(x)) => Some(x),
         _ => None,
     }
 }

@@ -3,14 +3,15 @@ ghost use Rattle.std.specs.Prelude.{◌≡◌, []};
 ghost use Rattle.xf_read.specs.Calls as rule;
 
 use crate::lookup::{
-    action_in, dir_in, has_any, prefix_at, ptype_in, u8_at, u32_at, u64_at, value_at,
+    OWN, action_in, dir_in, has_any, prefix_at, ptype_in, u8_at, u32_at, u64_at, value_at,
 };
+use crate::mark::mark_of;
 use crate::row::{Field, Slot};
 use crate::selector::{
     dest_port, given_end, judge_families, judge_ports, read_selector, source_port,
 };
 use xf_types::{
-    Action, Dir, Limits, Mark, PolicyFilter, PolicyKey, PolicySpec, Ptype, Reason, Templates,
+    Action, Dir, Limits, PolicyFilter, PolicyKey, PolicySpec, Ptype, Reason, Templates,
 };
 
 // What may not stand beside an index: it makes two policies the same.
@@ -26,24 +27,6 @@ pub(crate) static SAME_SLOTS: [Slot; 10] = [
     Slot::Mark,
     Slot::IfId,
 ];
-
-fn mark_by(value: Option<u32>, mask: Option<u32>) -> Mark
-    ensures { result ≡ rule.mark_by value mask }
-{
-    match value {
-        None => Mark { value: 0, mask: 0 },
-        Some(value) => Mark {
-            value,
-            mask: mask.unwrap_or(u32::MAX),
-        },
-    }
-}
-
-fn mark_of(fields: &[Field]) -> Mark
-    ensures { result ≡ rule.mark_of fields.now }
-{
-    mark_by(u32_at(fields, Slot::Mark), u32_at(fields, Slot::Mask))
-}
 
 #[tactic(auto, unfolding(crate::specs::Calls::limits_of))]
 fn limits_of(fields: &[Field]) -> Limits
@@ -67,7 +50,7 @@ pub(crate) fn read_spec(fields: &[Field]) -> Result<PolicySpec, Reason>
     ensures { result ≡ rule.spec_of fields.now }
 {
     let dir = dir_in(fields).ok_or(Reason::Missing)?;
-    let sel = read_selector(fields)?;
+    let sel = read_selector(fields, OWN)?;
     Ok(PolicySpec {
         dir,
         ptype: ptype_in(fields).unwrap_or(Ptype::Main),
@@ -95,7 +78,7 @@ fn index_key(dir: Dir, index: u32, fields: &[Field]) -> Result<PolicyKey, Reason
 fn same_key(dir: Dir, fields: &[Field]) -> Result<PolicyKey, Reason>
     ensures { result ≡ rule.same_key dir fields.now }
 {
-    let sel = read_selector(fields)?;
+    let sel = read_selector(fields, OWN)?;
     Ok(PolicyKey::Same {
         dir,
         ptype: ptype_in(fields).unwrap_or(Ptype::Main),
@@ -122,12 +105,12 @@ pub(crate) fn read_key(fields: &[Field]) -> Result<PolicyKey, Reason>
 pub(crate) fn read_filter(fields: &[Field]) -> Result<PolicyFilter, Reason>
     ensures { result ≡ rule.filter_of fields.now }
 {
-    let sport = source_port(fields)?;
-    let dport = dest_port(fields)?;
+    let sport = source_port(fields, OWN)?;
+    let dport = dest_port(fields, OWN)?;
     let src = prefix_at(fields, Slot::Src);
     let dst = prefix_at(fields, Slot::Dst);
     judge_families(&src, &dst)?;
-    judge_ports(fields)?;
+    judge_ports(fields, OWN)?;
     Ok(PolicyFilter {
         dir: dir_in(fields),
         ptype: ptype_in(fields),

@@ -1,7 +1,7 @@
 //! What tables of words are made of.
 
 use crate::keyword::Keyword;
-use xf_types::{Action, Addr, Dir, Prefix, Ptype, Reason};
+use xf_types::{Action, Addr, Dir, Mode, Prefix, Proto, Ptype, Reason};
 
 /// Where a value goes.
 #[derive(Clone, Copy, Debug)]
@@ -33,6 +33,18 @@ pub(crate) enum Slot {
     Remote4,
     Local6,
     Remote6,
+    Spi,
+    Mode,
+    Reqid,
+    Seq,
+    ReplayWindow,
+    ReplaySeq,
+    ReplayOseq,
+    Wildrecv,
+    Sel,
+    IcvBits,
+    Len,
+    Icv,
 }
 
 /// A value that was read. `Any` is a prefix of length 0 that has no family of its own.
@@ -48,6 +60,9 @@ pub(crate) enum Value {
     Dir(Dir),
     Ptype(Ptype),
     Action(Action),
+    Proto(Proto),
+    Mode(Mode),
+    Bool(bool),
 }
 
 /// What a name means.
@@ -58,6 +73,9 @@ pub(crate) enum Meaning {
     Dir(Dir),
     Ptype(Ptype),
     Action(Action),
+    Proto(Proto),
+    Mode(Mode),
+    Bool(bool),
 }
 
 /// One of the names that a value may have.
@@ -77,6 +95,10 @@ pub(crate) enum Names {
     Protocols,
     Headers,
     Anys,
+    StateProtocols,
+    PacketProtocols,
+    Modes,
+    Icvs,
 }
 
 /// A value that follows a word: where it goes, and what it may be. A number has its least and its greatest value.
@@ -113,8 +135,11 @@ pub(crate) enum Row {
     Once(Keyword, Args, Table),
     /// As often as one likes.
     Often(Keyword, Args, Table),
-    /// So many times at most, with a reason for one more. Each time the table's words are counted anew.
-    Opens(Keyword, Args, Table, u32, Reason),
+    /// As often as one likes, and with no value: that it stands is kept.
+    Kept(Keyword, Slot, Table),
+    /// So many times at most, with a reason for one more. Each time a group begins, in which it is kept that the word stands
+    /// and the table's words are counted anew.
+    Opens(Keyword, Slot, Table, u32, Reason),
     Unsupported(Keyword),
 }
 
@@ -134,6 +159,14 @@ pub(crate) enum Table {
     Limits,
     Unbuilt,
     Refused,
+    StateSpec,
+    StateId,
+    StateFilter,
+    StateKind,
+    StateFlags,
+    StateUnbuilt,
+    StateRefused,
+    Packet,
 }
 
 /// A value that was read, its place, and the group of words to which it belongs: 0 is the line's own.

@@ -1,10 +1,10 @@
-//! From fields to selectors: ports and types, families, and what each protocol may have.
+//! From the fields of a group to selectors: ports and types, families, and what each protocol may have.
 ghost use Rattle.std.specs.Prelude.{◌≡◌, Ok};
 ghost use Rattle.std.specs.Option.{option_map};
 ghost use Rattle.xf_types.specs.Facts.{IsSelector};
 ghost use Rattle.xf_read.specs.Selectors as rule;
 
-use crate::lookup::{has, prefix_at, u8_at, u16_at};
+use crate::lookup::{has_in_group, prefix_in_group, u8_in_group, u16_in_group};
 use crate::row::{Field, Slot, Value};
 use xf_types::{Addr, Prefix, Reason, Selector};
 
@@ -19,22 +19,22 @@ fn one_of(port: Option<u16>, other: Option<u16>) -> Result<Option<u16>, Reason>
 }
 
 /// The source port, or the ICMP type in its place.
-pub(crate) fn source_port(fields: &[Field]) -> Result<Option<u16>, Reason>
-    ensures { result ≡ rule.source_port fields.now }
+pub(crate) fn source_port(fields: &[Field], group: u32) -> Result<Option<u16>, Reason>
+    ensures { result ≡ rule.source_port group fields.now }
 {
     one_of(
-        u16_at(fields, Slot::SourcePort),
-        u16_at(fields, Slot::IcmpType),
+        u16_in_group(fields, group, Slot::SourcePort),
+        u16_in_group(fields, group, Slot::IcmpType),
     )
 }
 
 /// The destination port, or the ICMP code in its place.
-pub(crate) fn dest_port(fields: &[Field]) -> Result<Option<u16>, Reason>
-    ensures { result ≡ rule.dest_port fields.now }
+pub(crate) fn dest_port(fields: &[Field], group: u32) -> Result<Option<u16>, Reason>
+    ensures { result ≡ rule.dest_port group fields.now }
 {
     one_of(
-        u16_at(fields, Slot::DestPort),
-        u16_at(fields, Slot::IcmpCode),
+        u16_in_group(fields, group, Slot::DestPort),
+        u16_in_group(fields, group, Slot::IcmpCode),
     )
 }
 
@@ -51,30 +51,32 @@ fn carries_types(proto: u8) -> bool
 }
 
 /// The protocol, 0 where it isn't given.
-pub(crate) fn proto_of(fields: &[Field]) -> u8
-    ensures { result ≡ rule.proto_of fields.now }
+pub(crate) fn proto_of(fields: &[Field], group: u32) -> u8
+    ensures { result ≡ rule.proto_of group fields.now }
 {
-    u8_at(fields, Slot::Proto).unwrap_or(0)
+    u8_in_group(fields, group, Slot::Proto).unwrap_or(0)
 }
 
-fn has_port(fields: &[Field]) -> bool
-    ensures { result ≡ rule.has_port fields.now }
+fn has_port(fields: &[Field], group: u32) -> bool
+    ensures { result ≡ rule.has_port group fields.now }
 {
-    has(fields, Slot::SourcePort) || has(fields, Slot::DestPort)
+    has_in_group(fields, group, Slot::SourcePort) || has_in_group(fields, group, Slot::DestPort)
 }
 
-fn has_type(fields: &[Field]) -> bool
-    ensures { result ≡ rule.has_type fields.now }
+fn has_type(fields: &[Field], group: u32) -> bool
+    ensures { result ≡ rule.has_type group fields.now }
 {
-    has(fields, Slot::IcmpType) || has(fields, Slot::IcmpCode)
+    has_in_group(fields, group, Slot::IcmpType) || has_in_group(fields, group, Slot::IcmpCode)
 }
 
 /// Whether what is given fits the protocol.
-pub(crate) fn judge_ports(fields: &[Field]) -> Result<(), Reason>
-    ensures { result ≡ rule.judged_ports fields.now }
+pub(crate) fn judge_ports(fields: &[Field], group: u32) -> Result<(), Reason>
+    ensures { result ≡ rule.judged_ports group fields.now }
 {
-    let proto = proto_of(fields);
-    if has_port(fields) && !carries_ports(proto) || has_type(fields) && !carries_types(proto) {
+    let proto = proto_of(fields, group);
+    if has_port(fields, group) && !carries_ports(proto)
+        || has_type(fields, group) && !carries_types(proto)
+    {
         Err(Reason::Ports)
     } else {
         Ok(())
@@ -120,6 +122,22 @@ pub(crate) fn judge_family(a: &Addr, b: &Addr) -> Result<(), Reason>
     }
 }
 
+pub(crate) fn judge_ends(a: &Option<Addr>, b: &Option<Addr>) -> Result<(), Reason>
+    ensures { result ≡ rule.judged_ends a.now b.now }
+{
+    match (a, b) {
+        (Some(a), Some(b)) => judge_family(a, b),
+        _ => Ok(()),
+    }
+}
+
+/// The source, or the zero address of the destination's family.
+pub(crate) fn source_or_zero(src: Option<Addr>, dst: &Addr) -> Addr
+    ensures { result ≡ rule.source_or_zero src dst.now }
+{
+    src.unwrap_or(zero_of(dst))
+}
+
 pub(crate) fn judge_families(a: &Option<Prefix>, b: &Option<Prefix>) -> Result<(), Reason>
     ensures { result ≡ rule.judged_families a.now b.now }
 {
@@ -151,34 +169,53 @@ fn selector_between(
     }
 }
 
-fn src_of(fields: &[Field]) -> Prefix
-    ensures { result ≡ rule.src_of fields.now }
+fn src_of(fields: &[Field], group: u32) -> Prefix
+    ensures { result ≡ rule.src_of group fields.now }
 {
-    end_or(prefix_at(fields, Slot::Src), prefix_at(fields, Slot::Dst))
+    end_or(
+        prefix_in_group(fields, group, Slot::Src),
+        prefix_in_group(fields, group, Slot::Dst),
+    )
 }
 
-fn dst_of(fields: &[Field]) -> Prefix
-    ensures { result ≡ rule.dst_of fields.now }
+fn dst_of(fields: &[Field], group: u32) -> Prefix
+    ensures { result ≡ rule.dst_of group fields.now }
 {
-    end_or(prefix_at(fields, Slot::Dst), prefix_at(fields, Slot::Src))
+    end_or(
+        prefix_in_group(fields, group, Slot::Dst),
+        prefix_in_group(fields, group, Slot::Src),
+    )
 }
 
-/// The line's selector.
-#[tactic(auto, unfolding(crate::specs::Selectors::selector_of))]
-pub(crate) fn read_selector(fields: &[Field]) -> Result<Selector, Reason>
-    ensures { result ≡ rule.selector_of fields.now }
+/// The selector of a group, once its ports are known.
+#[tactic(auto, unfolding(crate::specs::Selectors::selector_with))]
+pub(crate) fn selector_with(
+    fields: &[Field],
+    group: u32,
+    sport: Option<u16>,
+    dport: Option<u16>,
+) -> Result<Selector, Reason>
+    ensures { result ≡ rule.selector_with group sport dport fields.now }
 {
-    let sport = source_port(fields)?;
-    let dport = dest_port(fields)?;
     let sel = selector_between(
-        src_of(fields),
-        dst_of(fields),
-        proto_of(fields),
+        src_of(fields, group),
+        dst_of(fields, group),
+        proto_of(fields, group),
         sport,
         dport,
     )?;
-    judge_ports(fields)?;
+    judge_ports(fields, group)?;
     Ok(sel)
+}
+
+/// The selector of a group.
+#[tactic(auto, unfolding(crate::specs::Selectors::selector_of))]
+pub(crate) fn read_selector(fields: &[Field], group: u32) -> Result<Selector, Reason>
+    ensures { result ≡ rule.selector_of group fields.now }
+{
+    let sport = source_port(fields, group)?;
+    let dport = dest_port(fields, group)?;
+    selector_with(fields, group, sport, dport)
 }
 
 /// A prefix that is a condition where it is given.

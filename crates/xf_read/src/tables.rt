@@ -5,6 +5,10 @@ ghost use Rattle.xf_read.specs.Tables.{names_of, rows_of, tables_of};
 use crate::head::Head;
 use crate::keyword::Keyword;
 use crate::row::{Arg, Args, Meaning, Name, Names, Row, Slot, Table};
+use crate::state_tables::{
+    ICVS, MODES, PACKET, PACKET_PROTOCOLS, STATE_FILTER, STATE_FLAGS, STATE_ID, STATE_KIND,
+    STATE_PROTOCOLS, STATE_REFUSED, STATE_SPEC, STATE_UNBUILT,
+};
 use xf_types::{Action, Dir, Ptype};
 
 const U32: u32 = u32::MAX;
@@ -52,34 +56,42 @@ pub(crate) static ANYS: [Name; 3] = [
     Name::Means(Keyword::Default, Meaning::Any),
 ];
 
-// ICMP types and codes stand in the places of ports.
+// ICMP types and codes stand in the places of ports. One word follows another, so that those behind `sel` stay its own.
 pub(crate) static SELECTOR: [Row; 7] = [
-    Row::Once(Keyword::Src, Args::One(Arg::Prefix(Slot::Src)), Table::None),
-    Row::Once(Keyword::Dst, Args::One(Arg::Prefix(Slot::Dst)), Table::None),
+    Row::Once(
+        Keyword::Src,
+        Args::One(Arg::Prefix(Slot::Src)),
+        Table::Selector,
+    ),
+    Row::Once(
+        Keyword::Dst,
+        Args::One(Arg::Prefix(Slot::Dst)),
+        Table::Selector,
+    ),
     Row::Once(
         Keyword::Proto,
         Args::One(Arg::NameOrU8(Slot::Proto, Names::Protocols, Names::Headers)),
-        Table::None,
+        Table::Selector,
     ),
     Row::Once(
         Keyword::Sport,
         Args::One(Arg::U16(Slot::SourcePort, 0, 65535)),
-        Table::None,
+        Table::Selector,
     ),
     Row::Once(
         Keyword::Dport,
         Args::One(Arg::U16(Slot::DestPort, 0, 65535)),
-        Table::None,
+        Table::Selector,
     ),
     Row::Once(
         Keyword::Type,
         Args::One(Arg::U16(Slot::IcmpType, 0, 255)),
-        Table::None,
+        Table::Selector,
     ),
     Row::Once(
         Keyword::Code,
         Args::One(Arg::U16(Slot::IcmpCode, 0, 255)),
-        Table::None,
+        Table::Selector,
     ),
 ];
 
@@ -343,6 +355,33 @@ pub(crate) static SET_TABLES: [Table; 2] = [Table::Thresholds, Table::Refused];
 
 pub(crate) static FLOW_TABLES: [Table; 1] = [Table::Flow];
 
+pub(crate) static STATE_SPEC_TABLES: [Table; 4] = [
+    Table::StateSpec,
+    Table::StateUnbuilt,
+    Table::StateRefused,
+    Table::Refused,
+];
+
+pub(crate) static STATE_ID_TABLES: [Table; 3] = [
+    Table::StateId,
+    Table::StateRefused,
+    Table::Refused,
+];
+
+pub(crate) static STATE_FILTER_TABLES: [Table; 3] = [
+    Table::StateFilter,
+    Table::StateRefused,
+    Table::Refused,
+];
+
+pub(crate) static STATE_FLUSH_TABLES: [Table; 3] = [
+    Table::StateKind,
+    Table::StateRefused,
+    Table::Refused,
+];
+
+pub(crate) static PACKET_TABLES: [Table; 1] = [Table::Packet];
+
 /// The names of a list.
 pub(crate) fn names_in(names: Names) -> &'static [Name]
     ensures { result.now ≡ names_of names }
@@ -355,6 +394,10 @@ pub(crate) fn names_in(names: Names) -> &'static [Name]
         Names::Protocols => &PROTOCOLS,
         Names::Headers => &HEADERS,
         Names::Anys => &ANYS,
+        Names::StateProtocols => &STATE_PROTOCOLS,
+        Names::PacketProtocols => &PACKET_PROTOCOLS,
+        Names::Modes => &MODES,
+        Names::Icvs => &ICVS,
     }
 }
 
@@ -376,6 +419,14 @@ pub(crate) fn rows_in(table: Table) -> &'static [Row]
         Table::Limits => &LIMITS,
         Table::Refused => &REFUSED,
         Table::Unbuilt => &UNBUILT,
+        Table::StateSpec => &STATE_SPEC,
+        Table::StateId => &STATE_ID,
+        Table::StateFilter => &STATE_FILTER,
+        Table::StateKind => &STATE_KIND,
+        Table::StateFlags => &STATE_FLAGS,
+        Table::StateUnbuilt => &STATE_UNBUILT,
+        Table::StateRefused => &STATE_REFUSED,
+        Table::Packet => &PACKET,
     }
 }
 
@@ -393,6 +444,15 @@ pub(crate) fn tables_in(head: Head) -> &'static [Table]
         Head::PolicyFlush => &FLUSH_TABLES,
         Head::PolicyCount => &[],
         Head::PolicySet => &SET_TABLES,
+        Head::StateAdd => &STATE_SPEC_TABLES,
+        Head::StateUpdate => &STATE_SPEC_TABLES,
+        Head::StateDelete => &STATE_ID_TABLES,
+        Head::StateGet => &STATE_ID_TABLES,
+        Head::StateDeleteAll => &STATE_FILTER_TABLES,
+        Head::StateList => &STATE_FILTER_TABLES,
+        Head::StateFlush => &STATE_FLUSH_TABLES,
+        Head::StateCount => &[],
         Head::Flow(_) => &FLOW_TABLES,
+        Head::Packet => &PACKET_TABLES,
     }
 }

@@ -25,6 +25,9 @@ impl Meaning {
             Meaning::Dir(dir) => Value::Dir(dir),
             Meaning::Ptype(ptype) => Value::Ptype(ptype),
             Meaning::Action(action) => Value::Action(action),
+            Meaning::Proto(proto) => Value::Proto(proto),
+            Meaning::Mode(mode) => Value::Mode(mode),
+            Meaning::Bool(x) => Value::Bool(x),
         }
     }
 }
