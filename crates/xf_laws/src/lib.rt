@@ -1,4 +1,4 @@
-//! Worked rows and laws of the machine: what follows from the rules alone. No code cites this crate.
+//! Worked rows and laws of the machine: what follows from the rules alone. No code calls this crate; proofs cite its lemmas.
 #![tactic(auto)]
 
 mod laws;

@@ -11,8 +11,10 @@ use Rattle.xf_types.specs.declared.call.Reply.TheVariants as reply
 use Rattle.xf_types.specs.Machine.{Machine, Outcome}
 use Rattle.xf_types.specs.Steps.{step}
 use Rattle.xf_types.specs.Batch.{Runs, receipts_of}
-use Rattle.xf_types.specs.History.{is_contended, is_exception, Moment, beginning, machine_next, next_moment, MayReply, IsLegalFrom, IsIncreasing, IsUncontended}
+use Rattle.xf_types.specs.History.{is_contended, is_exception, Moment, beginning, machine_next, next_moment, MayReply, IsLegalFrom, IsLegalHistory, IsIncreasing, IsUncontended}
 use Rattle.xf_types.specs.Steps.{empty}
+use Rattle.xf_laws.proofs.AcceptLemmas.{accepts-once}
+use Rattle.xf_laws.proofs.KeepLemmas.{empty-is}
 use Rattle.xf_run.specs.declared.batch.CallLine.{CallLine}
 use Rattle.xf_run.specs.Outcome.{IsHistoryOf}
 use Rattle.xf_run.specs.Progress.{MayAnswer}
@@ -157,11 +159,11 @@ pub IsHistoryOf-told : (end : Machine) (ls : List CallLine) (rs : List Receipt) 
     → IsHistoryOf (lines_shown ls) rs
 IsHistoryOf-told end ls rs told =
     let m = empty 4096 8192 in
+    let legal : IsLegalHistory m rs =
+    record { in_order = increasing 0 m end ls rs told; replies = legal-from 0 (beginning m) m end ls rs refl told }
+    in
     record {
-      legal = record {
-        in_order = increasing 0 m end ls rs told;
-        replies = legal-from 0 (beginning m) m end ls rs refl told;
-      };
+      legal = legal;
       shuffle = (
         record {
           workers = workers 0 m end ls rs told;
@@ -170,4 +172,5 @@ IsHistoryOf-told end ls rs told =
         refl,
       );
       uncontended = settled 0 m end ls rs told;
+      once = accepts-once m rs (empty-is 4096 8192 (omega arith) (omega arith)) legal;
     }

@@ -7,17 +7,20 @@ use Rattle.xf_types.specs.declared.status.Status.TheVariants as status
 use Rattle.xf_types.specs.Steps.{empty}
 use Rattle.xf_types.specs.Batch.{Line, IsShuffle}
 use Rattle.xf_types.specs.History.{IsLegalHistory, IsUncontended, has_refusal}
+use Rattle.xf_types.specs.Acceptance.{AcceptsOnce}
 use Rattle.xf_run.specs.declared.batch.BadLine.{BadLine}
 use Rattle.xf_run.specs.Batch.{batch_of}
 use Rattle.xf_print.specs.Receipts.{text_of}
 use Rattle.xf_print.specs.BadLine.{bad_line_text}
 
 -- a history of one thread: it is legal from the empty machine, its calls are those of the lines, each once and in order, and
--- no reply comes of other threads; so each is what the lists answer there, or want of memory
+-- no reply comes of other threads; so each is what the lists answer there, or want of memory. No state with a replay window
+-- accepts a number twice (RFC 4303, 3.4.3)
 pub record IsHistoryOf (lines : List Line) (history : List Receipt) : Type 0 where
   pub legal : IsLegalHistory (empty 4096 8192) history
   pub shuffle : IsShuffle ((lines ∷ []) ∷ []) (history ∷ [])
   pub uncontended : IsUncontended history
+  pub once : AcceptsOnce (empty 4096 8192) history
 
 -- all lines were answered: the text has grown by that of a history of them
 pub record Answered (lines : List Line) (refused : Bool) (old new : Option (List ℕ)) : Type 0 where

@@ -20,6 +20,12 @@ const LIST: &[u8] = b"xfrm policy list\n";
 const WEB: &[u8] =
     b"xfrm policy add src 2001:DB8:0:0::/32 dst ::/0 proto tcp dport 443 dir out priority 7 mark 0x2a\n";
 
+const STATE: &[u8] = b"xfrm state add dst 192.0.2.2 proto esp spi 0x1000 replay-window 32\n";
+
+const STATE_GET: &[u8] = b"xfrm state get dst 192.0.2.2 proto esp spi 0x1000\n";
+
+const STATE_COUNT: &[u8] = b"xfrm state count\n";
+
 const USAGE: &[u8] =
     b"usage: xfrm one | run --workers N [--tries N] [--again] | check | gen --seed N [--workers N]\n";
 
@@ -80,8 +86,8 @@ fn run<R: Threads + Wait>(
     Ok((status, sink))
 }
 
-/// Each reason that policy and flow lines have, but for the two of sizes; of two faults the first decides.
-const BAD: [BadRow<'static>; 31] = [
+/// Each reason that today's lines have, but for the two of sizes; of two faults the first decides.
+const BAD: [BadRow<'static>; 46] = [
     // a line's own faults, in their order
     (
         b"xfrm policy count \x07 'x\\",
@@ -110,6 +116,11 @@ const BAD: [BadRow<'static>; 31] = [
     (b"xfrm state colour", b"bad line 1: word\n", Reason::Word),
     (
         b"xfrm state add colour",
+        b"bad line 1: word\n",
+        Reason::Word,
+    ),
+    (
+        b"xfrm state allocspi colour",
         b"bad line 1: unsupported\n",
         Reason::Unsupported,
     ),
@@ -118,11 +129,7 @@ const BAD: [BadRow<'static>; 31] = [
         b"bad line 1: unsupported\n",
         Reason::Unsupported,
     ),
-    (
-        b"packet colour",
-        b"bad line 1: unsupported\n",
-        Reason::Unsupported,
-    ),
+    (b"packet colour", b"bad line 1: word\n", Reason::Word),
     (
         b"tick 01",
         b"bad line 1: unsupported\n",
@@ -183,6 +190,42 @@ const BAD: [BadRow<'static>; 31] = [
         b"bad line 1: missing\n",
         Reason::Missing,
     ),
+    (
+        b"xfrm state add limit colour",
+        b"bad line 1: unsupported\n",
+        Reason::Unsupported,
+    ),
+    (
+        b"xfrm state add dst 192.0.2.2 proto esp spi 0x1000 flag esn",
+        b"bad line 1: unsupported\n",
+        Reason::Unsupported,
+    ),
+    (
+        b"xfrm state add proto 50 spi 0",
+        b"bad line 1: word\n",
+        Reason::Word,
+    ),
+    (
+        b"xfrm state add spi 0 proto 50",
+        b"bad line 1: range\n",
+        Reason::Range,
+    ),
+    (
+        b"xfrm state update replay-window 33",
+        b"bad line 1: range\n",
+        Reason::Range,
+    ),
+    (
+        b"xfrm state list mode colour",
+        b"bad line 1: word\n",
+        Reason::Word,
+    ),
+    (b"packet icv good", b"bad line 1: word\n", Reason::Word),
+    (
+        b"packet seq 4294967296",
+        b"bad line 1: range\n",
+        Reason::Range,
+    ),
     // what a whole line lacks or mixes, in this order
     (
         b"xfrm policy get index 9 src 10.0.0.0/8",
@@ -224,6 +267,36 @@ const BAD: [BadRow<'static>; 31] = [
         b"bad line 1: ports\n",
         Reason::Ports,
     ),
+    (
+        b"xfrm state delete dst 192.0.2.2 proto esp",
+        b"bad line 1: missing\n",
+        Reason::Missing,
+    ),
+    (
+        b"packet dst 192.0.2.2 proto esp spi 0x1000",
+        b"bad line 1: missing\n",
+        Reason::Missing,
+    ),
+    (
+        b"xfrm state get src ::1 dst 192.0.2.2 proto esp spi 1",
+        b"bad line 1: family\n",
+        Reason::Family,
+    ),
+    (
+        b"packet src ::1 dst 192.0.2.2 proto esp spi 1 seq 1",
+        b"bad line 1: family\n",
+        Reason::Family,
+    ),
+    (
+        b"xfrm state add dst 192.0.2.2 proto esp spi 1 sel src ::/0 dst 10.0.0.0/8",
+        b"bad line 1: family\n",
+        Reason::Family,
+    ),
+    (
+        b"xfrm state add dst 192.0.2.2 proto esp spi 1 sel sport 1",
+        b"bad line 1: ports\n",
+        Reason::Ports,
+    ),
 ];
 
 /// A batch of `xfrm one` without faults has this text and status.
@@ -241,6 +314,21 @@ fn answers<R: Threads + Wait + Abort>(
     let (reached, sink) = run(rt, alloc, &case)?;
     assert_eq!(rt; reached, status);
     assert_eq!(rt; sink.text(), text);
+    Ok(())
+}
+
+/// Each case has its text and status.
+fn check_all<R: Threads + Wait + Abort>(
+    rt: &R,
+    alloc: Global,
+    table: &str,
+    cases: &[Case<'_>],
+) -> Result<(), Fail> {
+    for (i, case) in cases.iter().enumerate() {
+        let (status, sink) = run(rt, alloc, case)?;
+        assert_eq!(rt; status, case.status, "{table} {i}");
+        assert_eq!(rt; sink.text(), case.text, "{table} {i}");
+    }
     Ok(())
 }
 
@@ -289,6 +377,24 @@ fn full_list(alloc: Global) -> Result<(Vec<u8>, Vec<u8>), Fail> {
         }
     }
     text.extend_from_slice(b"4097: full live 4096 waiting 0\n")?;
+    Ok((input, text))
+}
+
+/// 8,192 states, each of a host of its own, and one more that finds the list full; and what is answered.
+fn full_states(alloc: Global) -> Result<(Vec<u8>, Vec<u8>), Fail> {
+    let mut input = Vec::new(alloc);
+    let mut text = Vec::new(alloc);
+    for i in 0..8193u32 {
+        let (third, fourth, line) = (i / 256, i % 256, i + 1);
+        writeln!(
+            input,
+            "xfrm state add dst 10.0.{third}.{fourth} proto esp spi 1"
+        )?;
+        if i < 8192 {
+            writeln!(text, "{line}: ok sid {line}")?;
+        }
+    }
+    text.extend_from_slice(b"8193: full live 8192 waiting 0\n")?;
     Ok((input, text))
 }
 
@@ -562,6 +668,8 @@ fn worked_batches(rt: HostRuntime) -> Result<(), Fail> {
         assert_eq!(rt; status, case.status, "case {i}");
         assert_eq!(rt; sink.text(), case.text, "case {i}");
     }
+    states(&rt, alloc)?;
+    packets(&rt, alloc)?;
     for (i, (line, text, reason)) in BAD.iter().enumerate() {
         let lines = [*line];
         let (status, sink) = run(&rt, alloc, &one(&lines, text, bad(1, *reason)))?;
@@ -571,9 +679,411 @@ fn worked_batches(rt: HostRuntime) -> Result<(), Fail> {
     sizes(&rt, alloc)
 }
 
-/// As many policies, call lines, `list` lines, bytes of a line and bytes of an input as there may be, and one more.
+/// Worked batches on states.
+fn states<R: Threads + Wait + Abort>(rt: &R, alloc: Global) -> Result<(), Fail> {
+    let cases = [
+        // what isn't there
+        one(
+            &[
+                b"xfrm policy delete src 10.0.0.0/8 dir out\n",
+                b"xfrm state delete dst 192.0.2.2 proto esp spi 0x1000\n",
+                b"xfrm state flush\n",
+            ],
+            b"1: RTNETLINK answers: No such file or directory\n2: RTNETLINK answers: No such process\n3: ok removed 0\n",
+            Status::Refusals,
+        ),
+        one(
+            &[
+                b"xfrm state deleteall\n",
+                b"xfrm state list\n",
+                STATE_COUNT,
+                b"xfrm state update dst 192.0.2.2 proto esp spi 0x1000\n",
+                STATE_GET,
+                b"packet dst 192.0.2.2 proto esp spi 0x1000 seq 1\n",
+            ],
+            b"1: ok removed 0\n2: list 0\n3: count 0\n4: RTNETLINK answers: No such process\n5: RTNETLINK answers: No such process\n6: RTNETLINK answers: No such process\n",
+            Status::Refusals,
+        ),
+        // a state as commonly written, over two physical lines
+        one(
+            &[
+                b"xfrm state add src 192.0.2.1 dst 192.0.2.2 proto esp spi 0x1000 reqid 1 mode tunnel \\\n",
+                b"  auth 'hmac(sha1)' 0x0102 enc 'cbc(aes)' 0x0304 replay-window 32\n",
+                STATE_GET,
+            ],
+            b"1: ok sid 1\n3: state 1 src 192.0.2.1 dst 192.0.2.2 proto esp spi 0x00001000 reqid 1 mode tunnel seq 0 mark 0x00000000 mask 0x00000000 if_id 0 replay-window 32 added 0\n",
+            Status::Done,
+        ),
+        // all that is shown of a state; what is forgotten beside it
+        one(
+            &[
+                b"xfrm state add src 2001:DB8:0::1 dst 2001:db8:0:0::2 proto comp spi 0xffffffff mode in_trigger seq 9 reqid 8 mark 0x2a mask 0xfff if_id 0xffffffff replay-window 31 replay-seq 7 replay-oseq 6 comp deflate aead 'rfc4106(gcm(aes))' 0x05 96 flag noecn wildrecv align4 sel proto ipv6-icmp type 128 code 0\n",
+                b"xfrm state get dst 2001:db8::2 proto comp spi 4294967295 mark 42 src 2001:db8::9\n",
+            ],
+            b"1: ok sid 1\n2: state 1 src 2001:db8::1 dst 2001:db8::2 proto comp spi 0xffffffff reqid 8 mode in_trigger seq 9 mark 0x0000002a mask 0x00000fff if_id 4294967295 replay-window 31 added 0 wildrecv sel src 0.0.0.0/0 dst 0.0.0.0/0 proto 58 sport 128 dport 0\n",
+            Status::Done,
+        ),
+        // the second of two equal states is refused, and leaves the list and the ids
+        one(
+            &[
+                STATE,
+                b"xfrm state add src 192.0.2.1 dst 192.0.2.2 proto esp spi 0x1000 reqid 5\n",
+                b"xfrm state list\n",
+                b"xfrm state add dst 192.0.2.2 proto ah spi 0x1000\n",
+            ],
+            b"1: ok sid 1\n2: RTNETLINK answers: File exists\n3: list 1\n3: state 1 src 0.0.0.0 dst 192.0.2.2 proto esp spi 0x00001000 reqid 0 mode transport seq 0 mark 0x00000000 mask 0x00000000 if_id 0 replay-window 32 added 0\n4: ok sid 2\n",
+            Status::Refusals,
+        ),
+        // so too where the marks differ and the earlier one's mask has the new one's value
+        one(
+            &[
+                b"xfrm state add dst 192.0.2.2 proto esp spi 0x1000 mark 5 mask 0xff\n",
+                b"xfrm state add dst 192.0.2.2 proto esp spi 0x1000\n",
+                b"xfrm state delete dst 192.0.2.2 proto esp spi 0x1000 mark 5\n",
+                b"xfrm state add dst 192.0.2.2 proto esp spi 0x1000 mark 5\n",
+                STATE_COUNT,
+            ],
+            b"1: ok sid 1\n2: ok sid 2\n3: ok sid 2\n4: RTNETLINK answers: File exists\n5: count 1\n",
+            Status::Refusals,
+        ),
+        // a state is got and deleted by the mark's value under the line's mask, and then under its own
+        one(
+            &[
+                b"xfrm state add dst 192.0.2.2 proto esp spi 0x1000 mark 5 mask 0xff\n",
+                b"xfrm state get dst 192.0.2.2 proto esp spi 0x1000 mark 0x1105 mask 0xfff\n",
+                b"xfrm state get dst 192.0.2.2 proto esp spi 0x1000 mark 0x105 mask 0xf00\n",
+                STATE_GET,
+                b"xfrm state delete dst 192.0.2.2 proto esp spi 0x1000 mark 6\n",
+                b"xfrm state delete dst 192.0.2.2 proto esp spi 0x1000 mark 0xf05\n",
+                STATE_COUNT,
+            ],
+            b"1: ok sid 1\n2: state 1 src 0.0.0.0 dst 192.0.2.2 proto esp spi 0x00001000 reqid 0 mode transport seq 0 mark 0x00000005 mask 0x000000ff if_id 0 replay-window 0 added 0\n3: RTNETLINK answers: No such process\n4: RTNETLINK answers: No such process\n5: RTNETLINK answers: No such process\n6: ok sid 1\n7: count 0\n",
+            Status::Refusals,
+        ),
+        // a mark with bits outside its mask is never found, nor by the same add
+        one(
+            &[
+                b"xfrm state add dst 192.0.2.2 proto esp spi 0x1000 mark 0x1ff mask 0xff\n",
+                b"xfrm state add dst 192.0.2.2 proto esp spi 0x1000 mark 0x1ff mask 0xff\n",
+                b"packet dst 192.0.2.2 proto esp spi 0x1000 seq 1 mark 0x1ff\n",
+                b"xfrm state get dst 192.0.2.2 proto esp spi 0x1000 mark 0xff\n",
+                STATE_COUNT,
+            ],
+            b"1: ok sid 1\n2: ok sid 2\n3: RTNETLINK answers: No such process\n4: RTNETLINK answers: No such process\n5: count 2\n",
+            Status::Refusals,
+        ),
+        // of several states that match, the latest, for each call that looks one up
+        one(
+            &[
+                b"xfrm state add dst 192.0.2.2 proto esp spi 0x1000 mark 5 mask 0xff replay-window 32\n",
+                b"xfrm state add dst 192.0.2.2 proto esp spi 0x1000\n",
+                b"packet dst 192.0.2.2 proto esp spi 0x1000 seq 0 mark 5\n",
+                b"xfrm state update dst 192.0.2.2 proto esp spi 0x1000 mark 5\n",
+                b"xfrm state delete dst 192.0.2.2 proto esp spi 0x1000 mark 5\n",
+                b"packet dst 192.0.2.2 proto esp spi 0x1000 seq 0 mark 5\n",
+                b"xfrm state update dst 192.0.2.2 proto esp spi 0x1000 mark 5\n",
+                b"xfrm state get dst 192.0.2.2 proto esp spi 0x1000 mark 5\n",
+                STATE_GET,
+            ],
+            b"1: ok sid 1\n2: ok sid 2\n3: accepted top 0\n4: ok sid 2\n5: ok sid 2\n6: zero\n7: ok sid 1\n8: state 1 src 0.0.0.0 dst 192.0.2.2 proto esp spi 0x00001000 reqid 0 mode transport seq 0 mark 0x00000005 mask 0x000000ff if_id 0 replay-window 32 added 0\n9: RTNETLINK answers: No such process\n",
+            Status::Refusals,
+        ),
+        // destination, protocol and SPI tell states apart, and the id that was given isn't given again
+        one(
+            &[
+                b"xfrm state add dst 192.0.2.2 proto esp spi 0x1000\n",
+                b"xfrm state add dst 192.0.2.3 proto esp spi 0x1000\n",
+                b"xfrm state add dst 192.0.2.2 proto ah spi 0x1000\n",
+                b"xfrm state add dst 192.0.2.2 proto esp spi 0x1001\n",
+                b"xfrm state add dst ::c000:202 proto esp spi 0x1000\n",
+                b"xfrm state delete dst 192.0.2.2 proto esp spi 0x1001\n",
+                b"xfrm state add dst 192.0.2.2 proto esp spi 0x1001\n",
+                STATE_COUNT,
+            ],
+            b"1: ok sid 1\n2: ok sid 2\n3: ok sid 3\n4: ok sid 4\n5: ok sid 5\n6: ok sid 4\n7: ok sid 6\n8: count 5\n",
+            Status::Done,
+        ),
+        // each condition of a list alone
+        one(
+            &[
+                b"xfrm state add src 192.0.2.1 dst 192.0.2.2 proto esp spi 0x1000\n",
+                b"xfrm state add dst 192.0.2.3 proto ah spi 0x1001 mode tunnel reqid 7\n",
+                b"xfrm state list src 192.0.2.1\n",
+                b"xfrm state list dst 192.0.2.3\n",
+                b"xfrm state list proto esp\n",
+                b"xfrm state list spi 0x1001\n",
+                b"xfrm state list mode transport\n",
+                b"xfrm state list reqid 7\n",
+                b"xfrm state list reqid 1\n",
+                b"xfrm state list reqid 7 mode transport\n",
+            ],
+            b"1: ok sid 1\n2: ok sid 2\n3: list 1\n3: state 1 src 192.0.2.1 dst 192.0.2.2 proto esp spi 0x00001000 reqid 0 mode transport seq 0 mark 0x00000000 mask 0x00000000 if_id 0 replay-window 0 added 0\n4: list 1\n4: state 2 src 0.0.0.0 dst 192.0.2.3 proto ah spi 0x00001001 reqid 7 mode tunnel seq 0 mark 0x00000000 mask 0x00000000 if_id 0 replay-window 0 added 0\n5: list 1\n5: state 1 src 192.0.2.1 dst 192.0.2.2 proto esp spi 0x00001000 reqid 0 mode transport seq 0 mark 0x00000000 mask 0x00000000 if_id 0 replay-window 0 added 0\n6: list 1\n6: state 2 src 0.0.0.0 dst 192.0.2.3 proto ah spi 0x00001001 reqid 7 mode tunnel seq 0 mark 0x00000000 mask 0x00000000 if_id 0 replay-window 0 added 0\n7: list 1\n7: state 1 src 192.0.2.1 dst 192.0.2.2 proto esp spi 0x00001000 reqid 0 mode transport seq 0 mark 0x00000000 mask 0x00000000 if_id 0 replay-window 0 added 0\n8: list 1\n8: state 2 src 0.0.0.0 dst 192.0.2.3 proto ah spi 0x00001001 reqid 7 mode tunnel seq 0 mark 0x00000000 mask 0x00000000 if_id 0 replay-window 0 added 0\n9: list 0\n10: list 0\n",
+            Status::Done,
+        ),
+        // a list is in the order of adding, which an update leaves
+        one(
+            &[
+                b"xfrm state add dst 192.0.2.3 proto ah spi 0x1001\n",
+                b"xfrm state add dst 2001:db8::1 proto esp spi 1 mode beet\n",
+                b"xfrm state update dst 192.0.2.3 proto ah spi 0x1001\n",
+                b"xfrm state show nokeys\n",
+            ],
+            b"1: ok sid 1\n2: ok sid 2\n3: ok sid 1\n4: list 2\n4: state 1 src 0.0.0.0 dst 192.0.2.3 proto ah spi 0x00001001 reqid 0 mode transport seq 0 mark 0x00000000 mask 0x00000000 if_id 0 replay-window 0 added 0\n4: state 2 src :: dst 2001:db8::1 proto esp spi 0x00000001 reqid 0 mode beet seq 0 mark 0x00000000 mask 0x00000000 if_id 0 replay-window 0 added 0\n",
+            Status::Done,
+        ),
+        // each condition of a deleteall alone
+        one(
+            &[
+                b"xfrm state add src 192.0.2.1 dst 192.0.2.2 proto esp spi 0x1000\n",
+                b"xfrm state add dst 192.0.2.2 proto ah spi 0x1000\n",
+                b"xfrm state add dst 192.0.2.3 proto esp spi 0x1000\n",
+                b"xfrm state add dst 192.0.2.3 proto comp spi 0x1000\n",
+                b"xfrm state add dst 192.0.2.4 proto esp spi 0x1001\n",
+                b"xfrm state add dst 192.0.2.4 proto comp spi 0x1002 mode ro\n",
+                b"xfrm state add dst 192.0.2.4 proto comp spi 0x1003 reqid 7\n",
+                b"xfrm state add dst 192.0.2.4 proto comp spi 0x1004\n",
+                b"xfrm state deleteall src 192.0.2.1\n",
+                b"xfrm state deleteall proto ah\n",
+                b"xfrm state deleteall dst 192.0.2.3\n",
+                b"xfrm state deleteall spi 0x1001\n",
+                b"xfrm state deleteall mode ro\n",
+                b"xfrm state deleteall reqid 7\n",
+                b"xfrm state deleteall reqid 7\n",
+                b"xfrm state deleteall proto comp dst 192.0.2.3\n",
+                STATE_COUNT,
+                b"xfrm state deleteall\n",
+                STATE_COUNT,
+            ],
+            b"1: ok sid 1\n2: ok sid 2\n3: ok sid 3\n4: ok sid 4\n5: ok sid 5\n6: ok sid 6\n7: ok sid 7\n8: ok sid 8\n9: ok removed 1\n10: ok removed 1\n11: ok removed 2\n12: ok removed 1\n13: ok removed 1\n14: ok removed 1\n15: ok removed 0\n16: ok removed 0\n17: count 1\n18: ok removed 1\n19: count 0\n",
+            Status::Done,
+        ),
+        // a flush by protocol, and a whole one
+        one(
+            &[
+                b"xfrm state add dst 192.0.2.2 proto esp spi 0x1000\n",
+                b"xfrm state add dst 192.0.2.2 proto ah spi 0x1000\n",
+                b"xfrm state add dst 192.0.2.2 proto esp spi 0x1001\n",
+                b"xfrm state add dst 192.0.2.2 proto comp spi 0x1000\n",
+                b"xfrm state flush proto esp\n",
+                b"xfrm state flush proto esp\n",
+                STATE_COUNT,
+                b"xfrm state flush\n",
+                STATE_COUNT,
+            ],
+            b"1: ok sid 1\n2: ok sid 2\n3: ok sid 3\n4: ok sid 4\n5: ok removed 2\n6: ok removed 0\n7: count 2\n8: ok removed 2\n9: count 0\n",
+            Status::Done,
+        ),
+        // an update leaves all but the limits and, where one is given, the selector
+        one(
+            &[
+                b"xfrm state add dst 192.0.2.2 proto esp spi 0x1000 reqid 3 mode tunnel replay-window 32 replay-seq 5 sel src 10.0.0.0/8\n",
+                b"packet dst 192.0.2.2 proto esp spi 0x1000 seq 9\n",
+                b"xfrm state update src 192.0.2.1 dst 192.0.2.2 proto esp spi 0x1000 reqid 4 mode beet seq 6 if_id 9 replay-window 1 replay-seq 100 flag wildrecv mark 7 mask 0xf\n",
+                STATE_GET,
+                b"packet dst 192.0.2.2 proto esp spi 0x1000 seq 9\n",
+                b"packet dst 192.0.2.2 proto esp spi 0x1000 seq 6\n",
+                b"xfrm state update dst 192.0.2.2 proto esp spi 0x1000 sel dst 10.1.2.3/16 proto tcp dport 443\n",
+                STATE_GET,
+                STATE_COUNT,
+            ],
+            b"1: ok sid 1\n2: accepted top 9\n3: ok sid 1\n4: state 1 src 0.0.0.0 dst 192.0.2.2 proto esp spi 0x00001000 reqid 3 mode tunnel seq 0 mark 0x00000000 mask 0x00000000 if_id 0 replay-window 32 added 0 sel src 10.0.0.0/8 dst 0.0.0.0/0 proto 0\n5: seen top 9\n6: accepted top 9\n7: ok sid 1\n8: state 1 src 0.0.0.0 dst 192.0.2.2 proto esp spi 0x00001000 reqid 3 mode tunnel seq 0 mark 0x00000000 mask 0x00000000 if_id 0 replay-window 32 added 0 sel src 0.0.0.0/0 dst 10.1.0.0/16 proto 6 dport 443\n9: count 1\n",
+            Status::Done,
+        ),
+    ];
+    check_all(rt, alloc, "state", &cases)
+}
+
+/// Worked batches on packets.
+fn packets<R: Threads + Wait + Abort>(rt: &R, alloc: Global) -> Result<(), Fail> {
+    let cases = [
+        // a window of 32: a new top, behind the window, in it, and a second time
+        one(
+            &[
+                STATE,
+                b"packet dst 192.0.2.2 proto esp spi 0x1000 seq 1\n",
+                b"packet dst 192.0.2.2 proto esp spi 0x1000 seq 33\n",
+                b"packet dst 192.0.2.2 proto esp spi 0x1000 seq 2\n",
+                b"packet dst 192.0.2.2 proto esp spi 0x1000 seq 1\n",
+                b"packet dst 192.0.2.2 proto esp spi 0x1000 seq 0\n",
+                b"packet dst 192.0.2.2 proto esp spi 0x1000 seq 33\n",
+            ],
+            b"1: ok sid 1\n2: accepted top 1\n3: accepted top 33\n4: accepted top 33\n5: old top 33\n6: zero\n7: seen top 33\n",
+            Status::Done,
+        ),
+        // the last number behind the window and the first one in it, by windows of 1, 31 and 32
+        one(
+            &[
+                b"xfrm state add dst 192.0.2.2 proto esp spi 0x1000 replay-window 1\n",
+                b"packet dst 192.0.2.2 proto esp spi 0x1000 seq 40\n",
+                b"packet dst 192.0.2.2 proto esp spi 0x1000 seq 39\n",
+                b"packet dst 192.0.2.2 proto esp spi 0x1000 seq 40\n",
+                b"packet dst 192.0.2.2 proto esp spi 0x1000 seq 41\n",
+            ],
+            b"1: ok sid 1\n2: accepted top 40\n3: old top 40\n4: seen top 40\n5: accepted top 41\n",
+            Status::Done,
+        ),
+        one(
+            &[
+                b"xfrm state add dst 192.0.2.2 proto esp spi 0x1000 replay-window 31\n",
+                b"packet dst 192.0.2.2 proto esp spi 0x1000 seq 40\n",
+                b"packet dst 192.0.2.2 proto esp spi 0x1000 seq 9\n",
+                b"packet dst 192.0.2.2 proto esp spi 0x1000 seq 10\n",
+                b"packet dst 192.0.2.2 proto esp spi 0x1000 seq 10\n",
+            ],
+            b"1: ok sid 1\n2: accepted top 40\n3: old top 40\n4: accepted top 40\n5: seen top 40\n",
+            Status::Done,
+        ),
+        one(
+            &[
+                STATE,
+                b"packet dst 192.0.2.2 proto esp spi 0x1000 seq 40\n",
+                b"packet dst 192.0.2.2 proto esp spi 0x1000 seq 8\n",
+                b"packet dst 192.0.2.2 proto esp spi 0x1000 seq 9\n",
+                b"packet dst 192.0.2.2 proto esp spi 0x1000 seq 9\n",
+            ],
+            b"1: ok sid 1\n2: accepted top 40\n3: old top 40\n4: accepted top 40\n5: seen top 40\n",
+            Status::Done,
+        ),
+        // so too at the greatest number
+        one(
+            &[
+                STATE,
+                b"packet dst 192.0.2.2 proto esp spi 0x1000 seq 4294967295\n",
+                b"packet dst 192.0.2.2 proto esp spi 0x1000 seq 4294967263\n",
+                b"packet dst 192.0.2.2 proto esp spi 0x1000 seq 4294967264\n",
+                b"packet dst 192.0.2.2 proto esp spi 0x1000 seq 4294967295\n",
+            ],
+            b"1: ok sid 1\n2: accepted top 4294967295\n3: old top 4294967295\n4: accepted top 4294967295\n5: seen top 4294967295\n",
+            Status::Done,
+        ),
+        // a jump past the window leaves nothing seen in it, one within it what is still there
+        one(
+            &[
+                STATE,
+                b"packet dst 192.0.2.2 proto esp spi 0x1000 seq 5\n",
+                b"packet dst 192.0.2.2 proto esp spi 0x1000 seq 36\n",
+                b"packet dst 192.0.2.2 proto esp spi 0x1000 seq 5\n",
+                b"packet dst 192.0.2.2 proto esp spi 0x1000 seq 68\n",
+                b"packet dst 192.0.2.2 proto esp spi 0x1000 seq 36\n",
+                b"packet dst 192.0.2.2 proto esp spi 0x1000 seq 37\n",
+            ],
+            b"1: ok sid 1\n2: accepted top 5\n3: accepted top 36\n4: seen top 36\n5: accepted top 68\n6: old top 68\n7: accepted top 68\n",
+            Status::Done,
+        ),
+        // without a window every number is fresh, 0 and one a second time too
+        one(
+            &[
+                b"xfrm state add dst 192.0.2.2 proto esp spi 0x1000\n",
+                b"packet dst 192.0.2.2 proto esp spi 0x1000 seq 0\n",
+                b"packet dst 192.0.2.2 proto esp spi 0x1000 seq 5\n",
+                b"packet dst 192.0.2.2 proto esp spi 0x1000 seq 5\n",
+                b"packet dst 192.0.2.2 proto esp spi 0x1000 seq 3\n",
+                b"packet dst 192.0.2.2 proto esp spi 0x1000 seq 0\n",
+                b"packet dst 192.0.2.2 proto esp spi 0x1000 seq 4294967295\n",
+                b"packet dst 192.0.2.2 proto esp spi 0x1000 seq 1\n",
+            ],
+            b"1: ok sid 1\n2: accepted top 0\n3: accepted top 5\n4: accepted top 5\n5: accepted top 5\n6: accepted top 5\n7: accepted top 4294967295\n8: accepted top 4294967295\n",
+            Status::Done,
+        ),
+        // the numbers up to `replay-seq` were accepted
+        one(
+            &[
+                b"xfrm state add dst 192.0.2.2 proto esp spi 0x1000 replay-window 32 replay-seq 40\n",
+                b"packet dst 192.0.2.2 proto esp spi 0x1000 seq 40\n",
+                b"packet dst 192.0.2.2 proto esp spi 0x1000 seq 39\n",
+                b"packet dst 192.0.2.2 proto esp spi 0x1000 seq 9\n",
+                b"packet dst 192.0.2.2 proto esp spi 0x1000 seq 8\n",
+                b"packet dst 192.0.2.2 proto esp spi 0x1000 seq 41\n",
+                b"packet dst 192.0.2.2 proto esp spi 0x1000 seq 9\n",
+            ],
+            b"1: ok sid 1\n2: seen top 40\n3: seen top 40\n4: seen top 40\n5: old top 40\n6: accepted top 41\n7: old top 41\n",
+            Status::Done,
+        ),
+        one(
+            &[
+                b"xfrm state add dst 192.0.2.2 proto esp spi 0x1000 replay-seq 40\n",
+                b"packet dst 192.0.2.2 proto esp spi 0x1000 seq 40\n",
+                b"packet dst 192.0.2.2 proto esp spi 0x1000 seq 8\n",
+                b"packet dst 192.0.2.2 proto esp spi 0x1000 seq 41\n",
+            ],
+            b"1: ok sid 1\n2: accepted top 40\n3: accepted top 40\n4: accepted top 41\n",
+            Status::Done,
+        ),
+        // a wrong integrity word leaves the window, and is looked at behind it
+        one(
+            &[
+                STATE,
+                b"packet dst 192.0.2.2 proto esp spi 0x1000 seq 100 len 60 icv bad\n",
+                b"packet dst 192.0.2.2 proto esp spi 0x1000 seq 5 icv bad\n",
+                b"packet dst 192.0.2.2 proto esp spi 0x1000 seq 5\n",
+                b"packet dst 192.0.2.2 proto esp spi 0x1000 seq 5 icv bad\n",
+                b"packet dst 192.0.2.2 proto esp spi 0x1000 seq 0 icv bad\n",
+                b"packet dst 192.0.2.2 proto esp spi 0x1000 seq 100 icv ok\n",
+                b"packet dst 192.0.2.2 proto esp spi 0x1000 seq 5 icv bad\n",
+            ],
+            b"1: ok sid 1\n2: icv\n3: icv\n4: accepted top 5\n5: seen top 5\n6: zero\n7: accepted top 100\n8: old top 100\n",
+            Status::Done,
+        ),
+        // neither the source of a packet nor the state's source or selector decides
+        one(
+            &[
+                b"xfrm state add dst 192.0.2.2 proto esp spi 0x1000 sel src 10.0.0.0/8 dst 10.1.0.0/16 proto udp dport 53\n",
+                b"packet src 198.51.100.9 dst 192.0.2.2 proto esp spi 0x1000 seq 1\n",
+                b"packet dst 192.0.2.2 proto esp spi 0x1000 seq 2\n",
+                b"xfrm state add src 192.0.2.1 dst 192.0.2.2 proto ah spi 0x1000 sel src ::/0\n",
+                b"packet src 198.51.100.9 dst 192.0.2.2 proto ah spi 0x1000 seq 3\n",
+            ],
+            b"1: ok sid 1\n2: accepted top 1\n3: accepted top 2\n4: ok sid 2\n5: accepted top 3\n",
+            Status::Done,
+        ),
+        // destination, protocol and SPI of a packet do, each alone
+        one(
+            &[
+                STATE,
+                b"packet dst 192.0.2.3 proto esp spi 0x1000 seq 1\n",
+                b"packet dst 192.0.2.2 proto ah spi 0x1000 seq 1\n",
+                b"packet dst 192.0.2.2 proto esp spi 0x1001 seq 1\n",
+                b"packet dst 192.0.2.2 proto esp spi 0x1000 seq 1\n",
+            ],
+            b"1: ok sid 1\n2: RTNETLINK answers: No such process\n3: RTNETLINK answers: No such process\n4: RTNETLINK answers: No such process\n5: accepted top 1\n",
+            Status::Refusals,
+        ),
+        // and its mark, under the state's mask
+        one(
+            &[
+                b"xfrm state add dst 192.0.2.2 proto esp spi 0x1000 mark 5 mask 0xff replay-window 32\n",
+                b"packet dst 192.0.2.2 proto esp spi 0x1000 seq 7 mark 0x105\n",
+                b"packet dst 192.0.2.2 proto esp spi 0x1000 seq 8 mark 6\n",
+                b"packet dst 192.0.2.2 proto esp spi 0x1000 seq 8\n",
+                b"packet dst 192.0.2.2 proto esp spi 0x1000 seq 8 mark 5\n",
+            ],
+            b"1: ok sid 1\n2: accepted top 7\n3: RTNETLINK answers: No such process\n4: RTNETLINK answers: No such process\n5: accepted top 8\n",
+            Status::Refusals,
+        ),
+        // each state has a window of its own, and a state that was added anew a new one
+        one(
+            &[
+                STATE,
+                b"xfrm state add dst 192.0.2.2 proto ah spi 0x1000 replay-window 1\n",
+                b"packet dst 192.0.2.2 proto esp spi 0x1000 seq 9\n",
+                b"packet dst 192.0.2.2 proto ah spi 0x1000 seq 7\n",
+                b"xfrm state delete dst 192.0.2.2 proto esp spi 0x1000\n",
+                b"packet dst 192.0.2.2 proto ah spi 0x1000 seq 7\n",
+                STATE,
+                b"packet dst 192.0.2.2 proto esp spi 0x1000 seq 9\n",
+            ],
+            b"1: ok sid 1\n2: ok sid 2\n3: accepted top 9\n4: accepted top 7\n5: ok sid 1\n6: seen top 7\n7: ok sid 3\n8: accepted top 9\n",
+            Status::Done,
+        ),
+    ];
+    check_all(rt, alloc, "packet", &cases)
+}
+
+/// As many policies, states, call lines, `list` lines, bytes of a line and bytes of an input as there may be, and one more.
 fn sizes<R: Threads + Wait + Abort>(rt: &R, alloc: Global) -> Result<(), Fail> {
     let (full, text) = full_list(alloc)?;
+    answers(rt, alloc, &[&full], &text, Status::Refusals)?;
+    let (full, text) = full_states(alloc)?;
     answers(rt, alloc, &[&full], &text, Status::Refusals)?;
     let counts = repeated(alloc, COUNT, 16_384)?;
     let text = numbered(alloc, "count in 0 out 0 fwd 0", 16_384)?;
