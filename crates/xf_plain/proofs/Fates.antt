@@ -1,6 +1,6 @@
 -- One of the states held is changed, refreshed, or meets its fate.
-use Rattle.std.proofs.Common.{arith, ◌≡◌, ◌≢◌, ℕ, zero, suc, ◌+◌, ◌<◌, ◌==◌, Bool, true, false, cond, not, List, [], ◌∷◌, ◌++◌, length, get_or, set, map, filter, refl, ap, sym, ◌∙◌, subst, All}
-use Rattle.std.specs.Prelude.{AllPairs, IfSome, Some, slice_get}
+use Rattle.std.proofs.Common.{arith, ◌≡◌, ◌≢◌, ℕ, zero, suc, ◌<◌, Bool, true, false, not, List, [], ◌∷◌, ◌++◌, length, get_or, set, map, filter, refl, ap, sym, ◌∙◌, subst, All}
+use Rattle.std.specs.Prelude.{IfSome, Some, slice_get}
 use Rattle.std.specs.Option.{option_map}
 use Rattle.std.proofs.Math.Seq.{map-set_same}
 use Rattle.std.proofs.lemmas.Bool.{true≢false}
@@ -18,7 +18,7 @@ use Rattle.xf_types.specs.TrafficRules.{Fate, Same, Ends, Becomes, Treated}
 use Rattle.xf_plain.specs.Table.{HeldView, TableView, table_of, table_without, table_changed, table_put, fated, is_end, held, own_in_table, Puts}
 use Rattle.xf_plain.specs.Traffic.{Does}
 use Rattle.xf_plain.specs.declared.traffic.Treatment.{Treatment}
-use Rattle.xf_plain.proofs.Tables.{AreApart, table_of-left, changed-at, put-at, own_of-at}
+use Rattle.xf_plain.proofs.Tables.{AreApart, changed-at, put-at, own_of-at}
 
 -- ---- state ids stay apart
 

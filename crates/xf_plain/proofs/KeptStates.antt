@@ -1,6 +1,6 @@
 -- What a machine keeps of its states.
-use Rattle.std.proofs.Common.{arith, ◌≡◌, ℕ, zero, suc, ◌+◌, ◌<◌, refl, Bool, true, false, cond, List, ◌∷◌, [], ◌++◌, length, ap, sym, subst, ◌∙◌, All, map}
-use Rattle.std.specs.Prelude.{Option, None, Some, IfSome, slice_get}
+use Rattle.std.proofs.Common.{arith, ◌≡◌, ℕ, zero, suc, ◌+◌, ◌<◌, refl, Bool, true, false, cond, List, ◌∷◌, [], ◌++◌, length, ap, sym, subst, All}
+use Rattle.std.specs.Prelude.{None, Some, IfSome, slice_get}
 use Rattle.std.proofs.lemmas.List.{length-append, length-map}
 use Rattle.std.proofs.lemmas.List.Elements.{All-filter, All-map, All-push, All-weaker}
 use Rattle.xf_types.specs.declared.state.Sa.{Sa}

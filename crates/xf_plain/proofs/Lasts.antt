@@ -1,5 +1,5 @@
 -- The last of a list that passes a test.
-use Rattle.std.proofs.Common.{arith, ◌≡◌, ℕ, zero, suc, ◌+◌, ◌<◌, Bool, true, false, cond, not, ◌&&◌, List, [], ◌∷◌, ◌++◌, length, get_or, drop, map, filter, reverse, refl, ap, sym, ◌∙◌, None, Some}
+use Rattle.std.proofs.Common.{arith, ◌≡◌, ℕ, zero, suc, ◌<◌, Bool, true, false, cond, ◌&&◌, List, [], ◌∷◌, ◌++◌, length, get_or, drop, map, filter, reverse, refl, ap, sym, ◌∙◌, None, Some}
 use Rattle.std.specs.Prelude.{Option, find, slice_get}
 use Rattle.std.specs.Option.{option_map, option_or}
 use Rattle.std.proofs.lemmas.List.{append-nil, map-append, reverse-append}

@@ -1,5 +1,5 @@
 -- What a packet does to the machine.
-use Rattle.std.proofs.Common.{arith, ◌≡◌, ◌≢◌, ℕ, ◌+◌, ◌≤◌, ◌<◌, Bool, true, false, cond, not, List, length, ap, sym, subst, ◌∙◌, refl}
+use Rattle.std.proofs.Common.{arith, ◌≡◌, ◌≢◌, ℕ, ◌<◌, Bool, true, false, cond, not, length, ap, sym, subst, ◌∙◌, refl}
 use Rattle.std.specs.Prelude.{Option, None, Some, IfSome, slice_get}
 use Rattle.xf_types.specs.declared.state.Sa.{Sa}
 use Rattle.xf_types.specs.declared.state.SaId.{SaId}
@@ -10,11 +10,11 @@ use Rattle.xf_types.specs.declared.call.Reply.TheVariants.{NoMemory, NoState}
 use Rattle.xf_types.specs.History.{is_contended}
 use Rattle.xf_types.specs.Lifetime.{Fine, Soft, Hard}
 use Rattle.xf_types.specs.Machine.{Machine, Own, outcome, Outcome}
-use Rattle.xf_types.specs.OneState.{on_found, put_back, dying_if}
+use Rattle.xf_types.specs.OneState.{on_found, put_back}
 use Rattle.xf_types.specs.OwnParts.{own_in}
 use Rattle.xf_types.specs.Replay.{Fresh, Zero, Old, Seen, replay_check, accepted_with, top}
 use Rattle.xf_types.specs.StateList.{latest_match}
-use Rattle.xf_types.specs.TrafficRules.{Fate, Same, Ends, Becomes, Treated, treated, charged, packet_at, by_window, by_integrity, within_limits, verdict_at, id_of_packet}
+use Rattle.xf_types.specs.TrafficRules.{Fate, Same, Ends, Becomes, treated, charged, packet_at, by_window, by_integrity, within_limits, verdict_at, id_of_packet}
 use Rattle.xf_plain.specs.Growth.{GrowsLittle}
 use Rattle.xf_plain.specs.Table.{TableView, Puts, own_in_table, table_put}
 use Rattle.xf_plain.proofs.KeptStates.{at-some}
@@ -40,15 +40,15 @@ settled-packet p now s own =
     elim s.larval as (λ b. IsSettled (cond b (treated reply.Larval Same) (by_window now s own p p.seq (replay_check s.spec.window own.accepted p.seq))).reply) [
       | true ↦ record { memory = λ e. absurd cc; settled = refl }
       | false ↦ elim (replay_check s.spec.window own.accepted p.seq) as (λ f. IsSettled (by_window now s own p p.seq f).reply) [
-          | Zero ↦ record { memory = λ e. absurd cc; settled = refl }
-          | Old ↦ record { memory = λ e. absurd cc; settled = refl }
-          | Seen ↦ record { memory = λ e. absurd cc; settled = refl }
-          | Fresh ↦ elim (verdict_at now s own) as (λ v. IsSettled (within_limits s v (by_integrity now s own p p.seq)).reply) [
-              | Hard ↦ record { memory = λ e. absurd cc; settled = refl }
-              | Soft ↦ settled-integrity now s own p p.seq (not s.dying)
-              | Fine ↦ settled-integrity now s own p p.seq false
-            ]
+        | Zero ↦ record { memory = λ e. absurd cc; settled = refl }
+        | Old ↦ record { memory = λ e. absurd cc; settled = refl }
+        | Seen ↦ record { memory = λ e. absurd cc; settled = refl }
+        | Fresh ↦ elim (verdict_at now s own) as (λ v. IsSettled (within_limits s v (by_integrity now s own p p.seq)).reply) [
+          | Hard ↦ record { memory = λ e. absurd cc; settled = refl }
+          | Soft ↦ settled-integrity now s own p p.seq (not s.dying)
+          | Fine ↦ settled-integrity now s own p p.seq false
         ]
+      ]
     ]
 
 settled-treated : (p : Packet) (now : ℕ) (r : Reply) (old new : TableView) (place : ℕ) → place < length old.states
@@ -91,10 +91,10 @@ answers-treated m p id r new place within named found puts =
     (outcome r (with_table m new) ≡ on_found m NoState (packet_at p) (latest_match m.shown.states (id_of_packet p)))
     m.shown.states place within puts
     (λ s at put.
-      let rule = packet_at p m.shown.time s (own_in m s) in
-      (λ i. outcome (put.is_reply i) (with_table m (put.is_put i)))
-      ∙ ap (outcome rule.reply) (put_back-table m s rule.fate)
-      ∙ ap (on_found m NoState (packet_at p)) (sym at ∙ found ∙ ap (latest_match m.shown.states) named))
+    let rule = packet_at p m.shown.time s (own_in m s) in
+    (λ i. outcome (put.is_reply i) (with_table m (put.is_put i)))
+    ∙ ap (outcome rule.reply) (put_back-table m s rule.fate)
+    ∙ ap (on_found m NoState (packet_at p)) (sym at ∙ found ∙ ap (latest_match m.shown.states) named))
 
 -- a packet adds no policy and no state
 grows-same : (m n : Machine) → n.shown.next_number ≡ m.shown.next_number → n.shown.next_sid ≡ m.shown.next_sid → GrowsLittle m.shown n.shown

@@ -1,5 +1,5 @@
 -- The two lists of what is held, after some of it was changed.
-use Rattle.std.proofs.Common.{arith, ◌≡◌, ◌≢◌, ℕ, zero, suc, ◌+◌, ◌<◌, ◌==◌, Bool, true, false, cond, not, List, [], ◌∷◌, ◌++◌, length, get_or, set, map, filter, refl, ap, sym, ◌∙◌, subst, All, eqb-true}
+use Rattle.std.proofs.Common.{arith, ◌≡◌, ◌≢◌, ℕ, zero, suc, ◌<◌, ◌==◌, Bool, true, false, cond, not, List, [], ◌∷◌, ◌++◌, length, get_or, set, map, filter, refl, ap, sym, ◌∙◌, All, eqb-true}
 use Rattle.std.specs.Prelude.{AllPairs}
 use Rattle.std.proofs.lemmas.List.{map-append}
 use Rattle.std.proofs.lemmas.Bool.Decides.{nat_tests}
@@ -8,7 +8,7 @@ use Rattle.xf_types.specs.Machine.{Own}
 use Rattle.xf_types.specs.PolicyList.{without}
 use Rattle.xf_types.specs.StateList.{has_sid, changed}
 use Rattle.xf_types.specs.OwnParts.{own_without, own_of, own_put}
-use Rattle.xf_plain.specs.Table.{HeldView, TableView, table_of, table_without, table_with}
+use Rattle.xf_plain.specs.Table.{HeldView, table_of, table_without, table_with}
 
 -- no two of them share a state id
 abbrev pub AreApart : List HeldView → Type 0
@@ -22,7 +22,7 @@ states_left leaves [] = refl
 states_left leaves (h ∷ hs) =
     elim (leaves h.state)
     as (λ b. map (λ (x : HeldView). x.state) (cond (not b) (h ∷ filter (λ x. not (leaves x.state)) hs) (filter (λ x. not (leaves x.state)) hs))
-        ≡ cond (not b) (h.state ∷ without leaves (map (λ (x : HeldView). x.state) hs)) (without leaves (map (λ (x : HeldView). x.state) hs)))
+    ≡ cond (not b) (h.state ∷ without leaves (map (λ (x : HeldView). x.state) hs)) (without leaves (map (λ (x : HeldView). x.state) hs)))
     [ true ↦ states_left leaves hs | false ↦ ap (λ ss. h.state ∷ ss) (states_left leaves hs) ]
 
 own_left : (leaves : Sa → Bool) (hs : List HeldView)
@@ -33,7 +33,7 @@ own_left leaves (h ∷ hs) =
     let rest = own_without leaves (map (λ (x : HeldView). x.state) hs) (map (λ (x : HeldView). x.own) hs) in
     elim (leaves h.state)
     as (λ b. map (λ (x : HeldView). x.own) (cond (not b) (h ∷ filter (λ x. not (leaves x.state)) hs) (filter (λ x. not (leaves x.state)) hs))
-        ≡ cond b rest (h.own ∷ rest))
+    ≡ cond b rest (h.own ∷ rest))
     [ true ↦ own_left leaves hs | false ↦ ap (λ os. h.own ∷ os) (own_left leaves hs) ]
 
 -- the table of those that are left

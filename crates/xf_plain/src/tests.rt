@@ -1,16 +1,13 @@
 //! What no clause says: that a step succeeds where there is memory.
-ghost use Rattle.xf_plain.specs.Built.{IsBuilt};
-
 use super::*;
 use std::process::Abort;
 use std::test::Fail;
 use xf_types::{
-    Action, Addr, Call, Dir, Limits, Mark, PolicySpec, Prefix, Ptype, Reply, Selector, Templates,
+    Action, Addr, Call, Dir, Limits, Mark, Mode, Packet, PolicySpec, Prefix, Proto, Ptype, Reply,
+    SaFilter, SaSpec, Selector, Templates,
 };
 
-fn policy() -> Call
-    ensures { IsBuilt result }
-{
+fn policy() -> Call {
     Call::PolicyAdd(PolicySpec {
         dir: Dir::Out,
         ptype: Ptype::Main,
@@ -31,18 +28,87 @@ fn policy() -> Call
     })
 }
 
-fn first_reply(rt: &impl Abort, mut plain: Plain) -> Reply {
+fn spec() -> SaSpec {
+    SaSpec {
+        src: Addr::V4(0),
+        dst: Addr::V4(0xc000_0202),
+        proto: Proto::Esp,
+        spi: 0x1000,
+        mode: Mode::Transport,
+        reqid: 0,
+        seq: 0,
+        mark: Mark { value: 0, mask: 0 },
+        if_id: 0,
+        sel: None,
+        window: 32,
+        in_seq: 0,
+        out_seq: 0,
+        wildrecv: false,
+        esn: false,
+        limits: Limits::none(),
+    }
+}
+
+fn packet() -> Call {
+    Call::Packet(Packet {
+        src: Addr::V4(0),
+        dst: Addr::V4(0xc000_0202),
+        proto: Proto::Esp,
+        spi: 0x1000,
+        seq: 5,
+        len: 100,
+        mark: 0,
+        icv_ok: true,
+    })
+}
+
+fn every_state() -> Call {
+    Call::StateList(SaFilter {
+        src: None,
+        dst: None,
+        proto: None,
+        spi: None,
+        mode: None,
+        reqid: None,
+    })
+}
+
+fn reply(rt: &impl Abort, plain: &mut Plain, call: &Call) -> Reply {
+    assert!(rt; is_built(call));
     assert!(rt; plain.young());
-    plain.step(&policy())
+    plain.step(call)
 }
 
 #[test]
 fn first_policy_has_index_nine(rt: HostRuntime) -> Result<(), Fail> {
     let alloc = rt.alloc();
-    assert_eq!(rt; first_reply(&rt, Plain::new(alloc)?), Reply::DoneIndex(9));
-    assert_eq!(rt;
-        first_reply(&rt, Plain::sized(alloc, 1, 1)?),
-        Reply::DoneIndex(9)
-    );
+    for mut plain in [Plain::new(alloc)?, Plain::sized(alloc, 1, 1)?] {
+        assert_eq!(rt; reply(&rt, &mut plain, &policy()), Reply::DoneIndex(9));
+    }
+    Ok(())
+}
+
+#[test]
+fn state_is_added_used_updated_and_listed(rt: HostRuntime) -> Result<(), Fail> {
+    let mut plain = Plain::new(rt.alloc())?;
+    for (call, answer) in [
+        (Call::StateAdd(spec()), Reply::DoneSid(1)),
+        (Call::StateAdd(spec()), Reply::StateExists(1)),
+        (
+            packet(),
+            Reply::Accepted {
+                top: 5,
+                soft: false,
+            },
+        ),
+        (packet(), Reply::Seen { top: 5 }),
+        (Call::StateUpdate(spec()), Reply::DoneSid(1)),
+    ] {
+        assert_eq!(rt; reply(&rt, &mut plain, &call), answer);
+    }
+    match reply(&rt, &mut plain, &every_state()) {
+        Reply::StateList(states) => assert_eq!(rt; states.as_slice().len(), 1),
+        other => assert!(rt; false, "{other:?} is no list"),
+    }
     Ok(())
 }

@@ -50,7 +50,7 @@ impl Held {
         requires { replay_check self.old.state.spec.window self.old.own.accepted packet.now.seq ≡ Fresh }
         ensures { Does result self.old self.new
             (within_limits self.old.state (verdict_at now self.old.state self.old.own)
-                (by_integrity now self.old.state self.old.own packet.now packet.now.seq)) }
+            (by_integrity now self.old.state self.old.own packet.now packet.now.seq)) }
     {
         match self.verdict(now) {
             Verdict::Hard => Treatment {

@@ -1,4 +1,4 @@
-use Rattle.std.proofs.Common.{◌≡◌, ap, ◌∙◌}
+use Rattle.std.proofs.Common.{ap, ◌∙◌}
 use Rattle.xf_types.specs.declared.call.Reply.TheVariants.{NoState}
 use Rattle.xf_types.specs.Machine.{Machine}
 use Rattle.xf_types.specs.OneState.{on_found}

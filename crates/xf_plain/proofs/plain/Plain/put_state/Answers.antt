@@ -1,4 +1,4 @@
-use Rattle.std.proofs.Common.{◌≡◌, ◌<◌, ap, sym, subst, ◌∙◌, length}
+use Rattle.std.proofs.Common.{◌<◌, ap, sym, subst, length}
 use Rattle.xf_types.specs.Machine.{Machine}
 use Rattle.xf_types.specs.StateList.{is_that}
 use Rattle.xf_plain.specs.Table.{TableView, HeldView}

@@ -23,5 +23,8 @@ invariant_of-self c =
     (sym c.self.view_is) c.requires.listed
     in
     let plain : c.copy.result.templates ≡ [] = ap (λ (s : PolicySpec). s.templates) c.copy.ensures ∙ c.requires.plain in
-    record { policies = IsKept-replaced (λ (q : Policy). is_same q.spec c.args.spec.now) p c.self.inside.policies.items _ _ _ c.self.invariant.policies
-    found plain c.in-Ok.ensures.ok; states = c.self.invariant.states }
+    record {
+      policies = IsKept-replaced (λ (q : Policy). is_same q.spec c.args.spec.now) p c.self.inside.policies.items _ _ _ c.self.invariant.policies
+          found plain c.in-Ok.ensures.ok;
+      states = c.self.invariant.states;
+    }

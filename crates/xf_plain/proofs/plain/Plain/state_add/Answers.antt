@@ -1,4 +1,4 @@
-use Rattle.std.proofs.Common.{◌≡◌, ap, sym, ◌∙◌}
+use Rattle.std.proofs.Common.{ap, sym, ◌∙◌}
 use Rattle.std.specs.Prelude.{None, Some, option_copied}
 use Rattle.xf_types.specs.Machine.{Machine}
 use Rattle.xf_plain.proofs.Adding.{adds}

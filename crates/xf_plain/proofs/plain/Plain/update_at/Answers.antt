@@ -1,4 +1,4 @@
-use Rattle.std.proofs.Common.{◌≡◌, ◌<◌, ap, sym, subst, length}
+use Rattle.std.proofs.Common.{◌<◌, sym, subst, length}
 use Rattle.xf_types.specs.Machine.{Machine}
 use Rattle.xf_plain.proofs.KeptStates.{kept-refreshed}
 use Rattle.xf_plain.proofs.plain.Plain.update_at.Goals as goal

@@ -1,4 +1,4 @@
-use Rattle.std.proofs.Common.{◌≡◌, ap, sym, ◌∙◌}
+use Rattle.std.proofs.Common.{ap, sym, ◌∙◌}
 use Rattle.std.specs.Prelude.{None, Some, option_copied}
 use Rattle.xf_types.specs.StateList.{is_larval_of, last_of}
 use Rattle.xf_plain.specs.Table.{HeldView}

@@ -1,4 +1,4 @@
-use Rattle.std.proofs.Common.{◌≡◌, ap, sym, ◌∙◌, not, ◌&&◌}
+use Rattle.std.proofs.Common.{ap, sym, ◌∙◌, not, ◌&&◌}
 use Rattle.std.specs.Prelude.{None, Some, option_copied}
 use Rattle.xf_types.specs.StateList.{has_id, is_that, last_of}
 use Rattle.xf_plain.specs.Table.{HeldView}

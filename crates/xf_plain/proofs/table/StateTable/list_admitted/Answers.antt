@@ -1,4 +1,4 @@
-use Rattle.std.proofs.Common.{◌≡◌, ap, sym, ◌∙◌, subst, ◌<◌, length, List}
+use Rattle.std.proofs.Common.{ap, sym, ◌∙◌}
 use Rattle.xf_types.specs.StateList.{state_meets}
 use Rattle.xf_plain.specs.Table.{HeldView, table_of}
 use Rattle.xf_plain.proofs.Founds.{listed-pushed, listed-passed}

@@ -1,4 +1,4 @@
-use Rattle.std.proofs.Common.{arith, ◌≡◌, ◌<◌, ◌-◌, suc, ap, sym, ◌∙◌, subst, drop, length}
+use Rattle.std.proofs.Common.{arith, ◌≡◌, ◌-◌, suc, ap, sym, ◌∙◌, subst, drop}
 use Rattle.std.specs.Prelude.{None}
 use Rattle.xf_types.specs.StateList.{has_id, last_of}
 use Rattle.xf_plain.specs.Table.{HeldView}

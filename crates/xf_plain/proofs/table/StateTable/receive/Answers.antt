@@ -1,4 +1,4 @@
-use Rattle.std.proofs.Common.{◌≡◌, ap, sym, ◌∙◌, refl, set}
+use Rattle.std.proofs.Common.{ap, sym, ◌∙◌, refl, set}
 use Rattle.std.proofs.lemmas.Bool.{true≢false}
 use Rattle.xf_types.specs.TrafficRules.{packet_at}
 use Rattle.xf_types.specs.StateList.{has_sid}

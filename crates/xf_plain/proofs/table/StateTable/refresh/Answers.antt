@@ -1,4 +1,3 @@
-use Rattle.std.proofs.Common.{◌≡◌}
 use Rattle.xf_types.specs.StateRules.{refreshed_record}
 use Rattle.xf_plain.proofs.Fates.{changes-at}
 use Rattle.xf_plain.proofs.Founds.{states-within}

@@ -1,4 +1,4 @@
-use Rattle.std.proofs.Common.{rules, ◌≡◌, ◌≢◌, not, ap, sym, subst, ◌∙◌, filter}
+use Rattle.std.proofs.Common.{rules, ◌≢◌, not, ap, sym, subst, ◌∙◌}
 use Rattle.std.proofs.lemmas.Fn.{filter_same}
 use Rattle.std.proofs.lemmas.List.Kept.{AllPairs-filter}
 use Rattle.xf_types.specs.declared.state.Sa.{Sa}
