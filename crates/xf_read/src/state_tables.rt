@@ -236,3 +236,30 @@ pub(crate) static PACKET: [Row; 8] = [
         Table::None,
     ),
 ];
+
+pub(crate) static STATE_SPEC_TABLES: [Table; 4] = [
+    Table::StateSpec,
+    Table::StateUnbuilt,
+    Table::StateRefused,
+    Table::Refused,
+];
+
+pub(crate) static STATE_ID_TABLES: [Table; 3] = [
+    Table::StateId,
+    Table::StateRefused,
+    Table::Refused,
+];
+
+pub(crate) static STATE_FILTER_TABLES: [Table; 3] = [
+    Table::StateFilter,
+    Table::StateRefused,
+    Table::Refused,
+];
+
+pub(crate) static STATE_FLUSH_TABLES: [Table; 3] = [
+    Table::StateKind,
+    Table::StateRefused,
+    Table::Refused,
+];
+
+pub(crate) static PACKET_TABLES: [Table; 1] = [Table::Packet];

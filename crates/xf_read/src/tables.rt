@@ -6,8 +6,9 @@ use crate::head::Head;
 use crate::keyword::Keyword;
 use crate::row::{Arg, Args, Meaning, Name, Names, Row, Slot, Table};
 use crate::state_tables::{
-    ICVS, MODES, PACKET, PACKET_PROTOCOLS, STATE_FILTER, STATE_FLAGS, STATE_ID, STATE_KIND,
-    STATE_PROTOCOLS, STATE_REFUSED, STATE_SPEC, STATE_UNBUILT,
+    ICVS, MODES, PACKET, PACKET_PROTOCOLS, PACKET_TABLES, STATE_FILTER, STATE_FILTER_TABLES,
+    STATE_FLAGS, STATE_FLUSH_TABLES, STATE_ID, STATE_ID_TABLES, STATE_KIND, STATE_PROTOCOLS,
+    STATE_REFUSED, STATE_SPEC, STATE_SPEC_TABLES, STATE_UNBUILT,
 };
 use xf_types::{Action, Dir, Ptype};
 
@@ -354,33 +355,6 @@ pub(crate) static FLUSH_TABLES: [Table; 2] = [Table::PolicyKind, Table::Refused]
 pub(crate) static SET_TABLES: [Table; 2] = [Table::Thresholds, Table::Refused];
 
 pub(crate) static FLOW_TABLES: [Table; 1] = [Table::Flow];
-
-pub(crate) static STATE_SPEC_TABLES: [Table; 4] = [
-    Table::StateSpec,
-    Table::StateUnbuilt,
-    Table::StateRefused,
-    Table::Refused,
-];
-
-pub(crate) static STATE_ID_TABLES: [Table; 3] = [
-    Table::StateId,
-    Table::StateRefused,
-    Table::Refused,
-];
-
-pub(crate) static STATE_FILTER_TABLES: [Table; 3] = [
-    Table::StateFilter,
-    Table::StateRefused,
-    Table::Refused,
-];
-
-pub(crate) static STATE_FLUSH_TABLES: [Table; 3] = [
-    Table::StateKind,
-    Table::StateRefused,
-    Table::Refused,
-];
-
-pub(crate) static PACKET_TABLES: [Table; 1] = [Table::Packet];
 
 /// The names of a list.
 pub(crate) fn names_in(names: Names) -> &'static [Name]

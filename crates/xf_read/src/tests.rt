@@ -1,4 +1,4 @@
-//! What all tests of lines share, bad lines, and the spellings of words.
+//! What all tests of lines share, and the spellings of words.
 ghost use Rattle.std.specs.Prelude.{◌≡◌, ◌≤◌};
 ghost use Rattle.xf_types.specs.Address.{family_of};
 ghost use Rattle.xf_types.specs.Prefixes.{prefix_at};
@@ -6,8 +6,6 @@ ghost use Rattle.xf_types.specs.declared.network.Addr.TheVariants.{V4, V6};
 
 use crate::fault::ReadFault;
 use crate::reader::{Item, Reader};
-use crate::tests_bad_policies::*;
-use crate::tests_bad_states::*;
 use std::alloc::Global;
 use std::test::*;
 use xf_types::{Addr, Call, Prefix, Ptype, Reason, Selector};
@@ -66,37 +64,6 @@ pub(crate) fn between(src: Prefix, dst: Prefix) -> Selector
         sport: None,
         dport: None,
     }
-}
-
-#[test]
-fn bad_lines_have_their_reason(rt: HostRuntime) -> Result<(), Fail> {
-    let mut reader = reader(rt.alloc())?;
-    let tables: [&[(&[u8], Reason)]; 14] = [
-        &LEXICAL,
-        &HEADS,
-        &WORDS,
-        &UNSUPPORTED,
-        &REPEATED,
-        &VALUES,
-        &ENDS,
-        &FIRST,
-        &STATE_WORDS,
-        &STATE_UNSUPPORTED,
-        &STATE_REPEATED,
-        &STATE_VALUES,
-        &STATE_ENDS,
-        &STATE_FIRST,
-    ];
-    for table in tables {
-        for (line, reason) in table {
-            let fault = ReadFault::Bad {
-                line: 7,
-                reason: *reason,
-            };
-            assert_eq!(rt; reader.line(line, 7), Err(fault));
-        }
-    }
-    Ok(())
 }
 
 #[test]

@@ -1,9 +1,12 @@
 //! Bad lines of policies and flows, and bad heads, with their reasons.
 
+use crate::fault::ReadFault;
+use crate::tests::reader;
+use std::test::*;
 use xf_types::Reason;
 
 // A logical line's own faults: byte, cut, quote, in this order.
-pub(crate) const LEXICAL: [(&[u8], Reason); 21] = [
+const LEXICAL: [(&[u8], Reason); 21] = [
     (b"xfrm policy count \x07", Reason::Byte),
     (b"xfrm policy count\r\n", Reason::Byte),
     (b"\x80", Reason::Byte),
@@ -28,7 +31,7 @@ pub(crate) const LEXICAL: [(&[u8], Reason); 21] = [
 ];
 
 // A head that is no head, one that is cut short, and one that isn't taken.
-pub(crate) const HEADS: [(&[u8], Reason); 31] = [
+const HEADS: [(&[u8], Reason); 31] = [
     (b"xfrm", Reason::Missing),
     (b"xfrm policy", Reason::Missing),
     (b"xfrm state", Reason::Missing),
@@ -63,7 +66,7 @@ pub(crate) const HEADS: [(&[u8], Reason); 31] = [
 ];
 
 // A word that may not stand where it does.
-pub(crate) const WORDS: [(&[u8], Reason); 39] = [
+const WORDS: [(&[u8], Reason); 39] = [
     (b"xfrm policy count x", Reason::Word),
     (b"xfrm policy count dev", Reason::Word),
     (b"xfrm policy flush dir in", Reason::Word),
@@ -109,7 +112,7 @@ pub(crate) const WORDS: [(&[u8], Reason); 39] = [
 ];
 
 // What ip-xfrm(8) has and isn't taken, and what isn't built.
-pub(crate) const UNSUPPORTED: [(&[u8], Reason); 24] = [
+const UNSUPPORTED: [(&[u8], Reason); 24] = [
     (b"xfrm policy add dev", Reason::Unsupported),
     (b"xfrm policy add ctx", Reason::Unsupported),
     (b"xfrm policy add encap", Reason::Unsupported),
@@ -137,7 +140,7 @@ pub(crate) const UNSUPPORTED: [(&[u8], Reason); 24] = [
 ];
 
 // A word that stands twice.
-pub(crate) const REPEATED: [(&[u8], Reason); 20] = [
+const REPEATED: [(&[u8], Reason); 20] = [
     (b"xfrm policy add dir in dir in", Reason::Repeated),
     (b"xfrm policy add dir in dir", Reason::Repeated),
     (b"xfrm policy add src any src any", Reason::Repeated),
@@ -170,7 +173,7 @@ pub(crate) const REPEATED: [(&[u8], Reason); 20] = [
 ];
 
 // A value that is missing, is no number, is out of its range, or is no address.
-pub(crate) const VALUES: [(&[u8], Reason); 78] = [
+const VALUES: [(&[u8], Reason); 78] = [
     (b"xfrm policy add dir", Reason::Missing),
     (b"xfrm policy add src", Reason::Missing),
     (b"xfrm policy add priority", Reason::Missing),
@@ -273,7 +276,7 @@ pub(crate) const VALUES: [(&[u8], Reason); 78] = [
 ];
 
 // What is judged once the words stand: missing, mixed, family, ports, in this order.
-pub(crate) const ENDS: [(&[u8], Reason); 57] = [
+const ENDS: [(&[u8], Reason); 57] = [
     (b"xfrm policy add", Reason::Missing),
     (b"xfrm policy update priority 1", Reason::Missing),
     (b"xfrm policy add src 10.0.0.0/8 dst ::/0", Reason::Missing),
@@ -379,7 +382,7 @@ pub(crate) const ENDS: [(&[u8], Reason); 57] = [
 ];
 
 // The first word from the left that offends decides.
-pub(crate) const FIRST: [(&[u8], Reason); 12] = [
+const FIRST: [(&[u8], Reason); 12] = [
     (b"xfrm policy add dir up priority x dev", Reason::Word),
     (b"xfrm policy add mask 1 dir dir", Reason::Word),
     (b"xfrm policy add priority x dir up", Reason::Number),
@@ -396,3 +399,28 @@ pub(crate) const FIRST: [(&[u8], Reason); 12] = [
     (b"xfrm policy add index 4294967296 index 1", Reason::Range),
     (b"xfrm policy add dir in priority", Reason::Missing),
 ];
+
+#[test]
+fn bad_lines_have_their_reason(rt: HostRuntime) -> Result<(), Fail> {
+    let mut reader = reader(rt.alloc())?;
+    let tables: [&[(&[u8], Reason)]; 8] = [
+        &LEXICAL,
+        &HEADS,
+        &WORDS,
+        &UNSUPPORTED,
+        &REPEATED,
+        &VALUES,
+        &ENDS,
+        &FIRST,
+    ];
+    for table in tables {
+        for (line, reason) in table {
+            let fault = ReadFault::Bad {
+                line: 7,
+                reason: *reason,
+            };
+            assert_eq!(rt; reader.line(line, 7), Err(fault));
+        }
+    }
+    Ok(())
+}

@@ -1,9 +1,12 @@
 //! Bad lines of states and packets, with their reasons.
 
+use crate::fault::ReadFault;
+use crate::tests::reader;
+use std::test::*;
 use xf_types::Reason;
 
 // A word that may not stand where it does.
-pub(crate) const STATE_WORDS: [(&[u8], Reason); 97] = [
+const STATE_WORDS: [(&[u8], Reason); 97] = [
     (b"xfrm state add x", Reason::Word),
     (b"xfrm state add \"\"", Reason::Word),
     (b"xfrm state add sport 1", Reason::Word),
@@ -104,7 +107,7 @@ pub(crate) const STATE_WORDS: [(&[u8], Reason); 97] = [
 ];
 
 // What ip-xfrm(8) has and isn't taken, and what isn't built.
-pub(crate) const STATE_UNSUPPORTED: [(&[u8], Reason); 49] = [
+const STATE_UNSUPPORTED: [(&[u8], Reason); 49] = [
     (b"xfrm state add dev", Reason::Unsupported),
     (b"xfrm state add ctx", Reason::Unsupported),
     (b"xfrm state add encap", Reason::Unsupported),
@@ -160,7 +163,7 @@ pub(crate) const STATE_UNSUPPORTED: [(&[u8], Reason); 49] = [
 ];
 
 // A word that stands twice in its group.
-pub(crate) const STATE_REPEATED: [(&[u8], Reason); 37] = [
+const STATE_REPEATED: [(&[u8], Reason); 37] = [
     (b"xfrm state add src ::1 src", Reason::Repeated),
     (b"xfrm state add dst ::1 dst ::1", Reason::Repeated),
     (b"xfrm state add proto esp proto ah", Reason::Repeated),
@@ -213,7 +216,7 @@ pub(crate) const STATE_REPEATED: [(&[u8], Reason); 37] = [
 ];
 
 // A value that is missing, is no number, is out of its range, or is no address.
-pub(crate) const STATE_VALUES: [(&[u8], Reason); 83] = [
+const STATE_VALUES: [(&[u8], Reason); 83] = [
     (b"xfrm state add dst", Reason::Missing),
     (b"xfrm state add proto", Reason::Missing),
     (b"xfrm state add spi", Reason::Missing),
@@ -300,7 +303,7 @@ pub(crate) const STATE_VALUES: [(&[u8], Reason); 83] = [
 ];
 
 // What is judged once the words stand: missing, mixed, family, ports, in this order.
-pub(crate) const STATE_ENDS: [(&[u8], Reason); 49] = [
+const STATE_ENDS: [(&[u8], Reason); 49] = [
     (b"xfrm state add", Reason::Missing),
     (b"xfrm state update", Reason::Missing),
     (b"xfrm state delete", Reason::Missing),
@@ -449,7 +452,7 @@ pub(crate) const STATE_ENDS: [(&[u8], Reason); 49] = [
 ];
 
 // The first word from the left that offends decides.
-pub(crate) const STATE_FIRST: [(&[u8], Reason); 16] = [
+const STATE_FIRST: [(&[u8], Reason); 16] = [
     (b"xfrm state add dir spi 0", Reason::Unsupported),
     (b"xfrm state add spi 0 dir", Reason::Range),
     (b"xfrm state add proto 50 dev", Reason::Word),
@@ -470,3 +473,26 @@ pub(crate) const STATE_FIRST: [(&[u8], Reason); 16] = [
     (b"packet seq x seq", Reason::Number),
     (b"xfrm state count x dev", Reason::Word),
 ];
+
+#[test]
+fn bad_state_lines_have_their_reason(rt: HostRuntime) -> Result<(), Fail> {
+    let mut reader = reader(rt.alloc())?;
+    let tables: [&[(&[u8], Reason)]; 6] = [
+        &STATE_WORDS,
+        &STATE_UNSUPPORTED,
+        &STATE_REPEATED,
+        &STATE_VALUES,
+        &STATE_ENDS,
+        &STATE_FIRST,
+    ];
+    for table in tables {
+        for (line, reason) in table {
+            let fault = ReadFault::Bad {
+                line: 7,
+                reason: *reason,
+            };
+            assert_eq!(rt; reader.line(line, 7), Err(fault));
+        }
+    }
+    Ok(())
+}
