@@ -30,8 +30,8 @@ use Rattle.xf_lex.specs.Lexing.{Word}
 use Rattle.xf_read.specs.Numbers.{number_in}
 use Rattle.xf_read.specs.Tables.{names_of, rows_of}
 
--- what is read, or the first fault from the left
 infixl 10 ◌>>=◌
+-- what is read, or the first fault from the left
 abbrev pub ◌>>=◌ : {A B : Type 0} → Result A Reason → (A → Result B Reason) → Result B Reason
 (Ok x) >>= f = f x
 (Err e) >>= f = Err e

@@ -16,10 +16,11 @@ use Rattle.xf_run.specs.declared.batch.BadLine.{BadLine}
 abbrev pub limit : ℕ
 limit = 2 ^ 20
 
--- how many call lines a phase may have, and how many lists among them
+-- how many call lines a phase may have
 abbrev pub call_limit : ℕ
 call_limit = 16384
 
+-- how many lists among them
 abbrev pub list_limit : ℕ
 list_limit = 256
 
