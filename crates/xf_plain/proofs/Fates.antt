@@ -15,9 +15,10 @@ use Rattle.xf_types.specs.OneState.{dying_if}
 use Rattle.xf_types.specs.OwnParts.{new_own, own_put}
 use Rattle.xf_types.specs.StateList.{has_sid, changed}
 use Rattle.xf_types.specs.TrafficRules.{Fate, Same, Ends, Becomes, Treated}
-use Rattle.xf_plain.specs.Table.{HeldView, TableView, table_of, table_without, table_changed, table_put, fated, is_end, held, own_in_table, Puts}
-use Rattle.xf_plain.specs.Traffic.{Does}
-use Rattle.xf_plain.specs.declared.traffic.Treatment.{Treatment}
+use Rattle.xf_held.specs.View.{HeldView, fated, is_end, held}
+use Rattle.xf_plain.specs.Table.{TableView, table_of, table_without, table_changed, table_put, own_in_table, Puts}
+use Rattle.xf_held.specs.Traffic.{Does}
+use Rattle.xf_held.specs.declared.traffic.Treatment.{Treatment}
 use Rattle.xf_plain.proofs.Tables.{AreApart, changed-at, put-at, own_of-at}
 
 -- ---- state ids stay apart

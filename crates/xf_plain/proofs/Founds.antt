@@ -9,7 +9,8 @@ use Rattle.xf_types.specs.declared.state.SaId.{SaId}
 use Rattle.xf_types.specs.declared.state.SaSpec.{SaSpec}
 use Rattle.xf_types.specs.PolicyList.{without}
 use Rattle.xf_types.specs.StateList.{last_of, latest_match, larval_replaced, has_id, is_larval_of, is_that}
-use Rattle.xf_plain.specs.Table.{HeldView, TableView, table_of}
+use Rattle.xf_held.specs.View.{HeldView}
+use Rattle.xf_plain.specs.Table.{TableView, table_of}
 use Rattle.xf_plain.proofs.Lasts.{last_of-map, last_of-filter, last_of-at, last_of-past}
 
 not-zero : (n : ℕ) → (n ≡ 0 → ⊥) → (n == 0) ≡ false

@@ -8,7 +8,8 @@ use Rattle.xf_types.specs.Machine.{Own}
 use Rattle.xf_types.specs.PolicyList.{without}
 use Rattle.xf_types.specs.StateList.{has_sid, changed}
 use Rattle.xf_types.specs.OwnParts.{own_without, own_of, own_put}
-use Rattle.xf_plain.specs.Table.{HeldView, table_of, table_without, table_with}
+use Rattle.xf_held.specs.View.{HeldView}
+use Rattle.xf_plain.specs.Table.{table_of, table_without, table_with}
 
 -- no two of them share a state id
 abbrev pub AreApart : List HeldView → Type 0

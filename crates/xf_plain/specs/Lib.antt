@@ -3,5 +3,3 @@ pub mod Growth
 pub mod Kept
 pub mod Replacing
 pub mod Table
-pub mod Traffic
-pub mod Windows

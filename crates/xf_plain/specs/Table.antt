@@ -1,7 +1,6 @@
 -- The states of a machine, each held with its own part.
-use Rattle.std.specs.Prelude.{◌≡◌, ℕ, Bool, true, false, List, [], ◌∷◌, ◌++◌, map, Option, None, Some, slice_get}
+use Rattle.std.specs.Prelude.{◌≡◌, ℕ, Bool, List, [], ◌∷◌, ◌++◌, map, Option, None, Some, slice_get}
 use Rattle.xf_types.specs.declared.state.Sa.{Sa}
-use Rattle.xf_types.specs.declared.state.SaSpec.{SaSpec}
 use Rattle.xf_types.specs.Machine.{Own}
 use Rattle.xf_types.specs.PolicyList.{without}
 use Rattle.xf_types.specs.StateList.{has_sid, changed}
@@ -9,38 +8,7 @@ use Rattle.xf_types.specs.declared.call.Reply.{Reply}
 use Rattle.xf_types.specs.OwnParts.{new_own, own_without, own_of, own_put}
 use Rattle.xf_types.specs.OneState.{dying_if}
 use Rattle.xf_types.specs.TrafficRules.{Fate, Same, Ends, Becomes, Treated}
-use Rattle.xf_replay.specs.declared.own.Own.{Own as OwnPart}
-
--- a state with its own part
-pub record HeldView : Type 0 where
-  pub state : Sa
-  pub own : Own
-
--- from its two parts
-abbrev pub held : Sa → Own → HeldView
-held s o = record { state = s; own = o }
-
--- an own part as the machine has it: the window tells the accepted numbers
-abbrev pub own_shown : OwnPart → Own
-own_shown o =
-    record { accepted = o.window.accepted; sent = o.out; packets = o.packets; bytes = o.bytes; first_use = o.first }
-
--- a new state in use, with the own part that it begins with
-abbrev pub new_held : ℕ → ℕ → SaSpec → HeldView
-new_held sid added spec =
-    held (record { sid = sid; added = added; larval = false; dying = false; spec = spec }) (new_own spec)
-
--- a state with its own part after its fate; one that ends leaves the list as it was
-abbrev pub fated : HeldView → Fate → HeldView
-fated h Same = h
-fated h Ends = h
-fated h (Becomes soft own) = held (dying_if soft h.state) own
-
--- the state ends
-abbrev pub is_end : Fate → Bool
-is_end Same = false
-is_end Ends = true
-is_end (Becomes soft own) = false
+use Rattle.xf_held.specs.View.{HeldView}
 
 -- the states and their own parts, in one order
 pub record TableView : Type 0 where

@@ -7,10 +7,9 @@ ghost use Rattle.xf_types.specs.PolicyList.{without};
 ghost use Rattle.xf_types.specs.Same.{meets_one, same_proto};
 ghost use Rattle.xf_types.specs.TrafficRules.{packet_at};
 
-use crate::held::Held;
-use crate::naming::{admits, has_id, is_larval_of, is_that, meets_proto};
 use std::alloc::{AllocError, Global};
 use std::marker::Model;
+use xf_held::{Held, admits, has_id, is_larval_of, is_that, meets_proto};
 use xf_types::{NoMemory, Packet, Proto, Reply, Sa, SaFilter, SaId, SaSpec};
 
 /// The states, the latest last.
@@ -55,7 +54,7 @@ impl StateTable {
         let mut place = self.held.len();
         'search: while place > 0 {
             place -= 1;
-            if has_id(id, &self.held[place].state) {
+            if has_id(id, self.held[place].state()) {
                 return Some(place);
             }
         }
@@ -67,7 +66,7 @@ impl StateTable {
         requires { place < length self.now.states }
         ensures { Some result.now ≡ slice_get self.now.states place }
     {
-        &self.held[place].state
+        self.held[place].state()
     }
 
     /// The state that an id names.
@@ -86,7 +85,7 @@ impl StateTable {
     {
         match find_latest_but(&self.held, one, id) {
             None => None,
-            Some(found) => Some(&found.state),
+            Some(found) => Some(found.state()),
         }
     }
 
@@ -99,7 +98,7 @@ impl StateTable {
         }
         match find_larval_of(&self.held, spec) {
             None => None,
-            Some(found) => Some(found.state),
+            Some(found) => Some(*found.state()),
         }
     }
 
@@ -109,7 +108,7 @@ impl StateTable {
     {
         self.held
             .iter()
-            .filter(|h| admits(filter, &h.state))
+            .filter(|h| admits(filter, h.state()))
             .count()
     }
 
@@ -119,7 +118,7 @@ impl StateTable {
     {
         self.held
             .iter()
-            .filter(|h| meets_proto(proto, h.state.spec.proto))
+            .filter(|h| meets_proto(proto, h.state().spec.proto))
             .count()
     }
 
@@ -129,8 +128,8 @@ impl StateTable {
     {
         let mut admitted = Vec::new(*self.held.allocator());
         for held in &self.held {
-            if admits(wanted, &held.state) {
-                admitted.push(held.state)?;
+            if admits(wanted, held.state()) {
+                admitted.push(*held.state())?;
             }
         }
         Ok(admitted)
@@ -140,14 +139,14 @@ impl StateTable {
     pub(crate) fn remove(&mut self, sid: u64)
         ensures { self.new ≡ table_without (has_sid sid) self.old }
     {
-        self.held.retain(|h| h.state.sid != sid);
+        self.held.retain(|h| h.state().sid != sid);
     }
 
     /// Those that the filter admits leave.
     pub(crate) fn remove_admitted(&mut self, filter: &SaFilter)
         ensures { self.new ≡ table_without (state_meets filter.now) self.old }
     {
-        self.held.retain(|h| !admits(filter, &h.state));
+        self.held.retain(|h| !admits(filter, h.state()));
     }
 
     /// Those of a protocol, or all, leave.
@@ -155,7 +154,7 @@ impl StateTable {
         ensures { self.new ≡ table_without (λ s. meets_one same_proto proto s.spec.proto) self.old }
     {
         self.held
-            .retain(|h| !meets_proto(proto, h.state.spec.proto));
+            .retain(|h| !meets_proto(proto, h.state().spec.proto));
     }
 
     /// That one leaves, where there is one, and the new one goes last. Its state id is greater than all others.
@@ -190,7 +189,7 @@ impl StateTable {
             (λ s. Puts result self.old self.new s (packet_at packet.now now s (own_in_table self.old s))) }
     {
         let held = &mut self.held[place];
-        let sid = held.state.sid;
+        let sid = held.state().sid;
         let did = held.receive(packet, now);
         if did.ends {
             self.remove(sid);
@@ -205,7 +204,7 @@ fn remove_that(held: &mut Vec<Held>, one: &Option<Sa>)
     ensures shorter { length held.new.items ≤ length held.old.items }
     ensures capacity { vec_capacity held.new ≡ vec_capacity held.old }
 {
-    held.retain(|h| !is_that(one, &h.state));
+    held.retain(|h| !is_that(one, h.state()));
 }
 
 /// The last one that the id names where that one is left out.
@@ -214,12 +213,12 @@ fn find_latest_but<'a>(held: &'a [Held], one: &Option<Sa>, id: &SaId) -> Option<
 {
     held.iter()
         .rev()
-        .find(|h| !is_that(one, &h.state) && has_id(id, &h.state))
+        .find(|h| !is_that(one, h.state()) && has_id(id, h.state()))
 }
 
 /// The last larval one that waits for what is asked for.
 fn find_larval_of<'a>(held: &'a [Held], spec: &SaSpec) -> Option<&'a Held>
     ensures { option_copied result ≡ last_of (λ h. is_larval_of spec.now h.state) held.now }
 {
-    held.iter().rev().find(|h| is_larval_of(spec, &h.state))
+    held.iter().rev().find(|h| is_larval_of(spec, h.state()))
 }

@@ -2,8 +2,7 @@
 ghost use Rattle.std.specs.Prelude.{◌≡◌, ◌≢◌, ◌<◌, ◌^◌, IfOk, OnOk, OnErr, IfSome, Some, None, length, slice_get, false};
 
 use super::Plain;
-use crate::held::Held;
-use crate::naming::{id_of, id_of_packet};
+use xf_held::{Held, id_of, id_of_packet};
 use xf_types::{NoMemory, Packet, Proto, Reply, Sa, SaFilter, SaId, SaSpec, Sas};
 
 impl Plain {

@@ -1,7 +1,7 @@
 use Rattle.std.proofs.Common.{rules, not}
 use Rattle.std.proofs.lemmas.Fn.{filter_same}
 use Rattle.xf_types.specs.StateList.{is_that}
-use Rattle.xf_plain.specs.Table.{HeldView}
+use Rattle.xf_held.specs.View.{HeldView}
 use Rattle.xf_plain.proofs.table.remove_that.Goals as goal
 
 pub returns-clause-rest : goal.returns-clause-rest

@@ -1,7 +1,7 @@
 use Rattle.std.proofs.Common.{ap, sym, ◌∙◌}
 use Rattle.std.specs.Prelude.{None, Some, option_copied}
 use Rattle.xf_types.specs.StateList.{is_larval_of, last_of}
-use Rattle.xf_plain.specs.Table.{HeldView}
+use Rattle.xf_held.specs.View.{HeldView}
 use Rattle.xf_plain.proofs.Founds.{larval-found}
 use Rattle.xf_plain.proofs.table.StateTable.larval_replaced.Goals as goal
 

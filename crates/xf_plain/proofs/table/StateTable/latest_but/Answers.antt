@@ -1,7 +1,7 @@
 use Rattle.std.proofs.Common.{ap, sym, ◌∙◌, not, ◌&&◌}
 use Rattle.std.specs.Prelude.{None, Some, option_copied}
 use Rattle.xf_types.specs.StateList.{has_id, is_that, last_of}
-use Rattle.xf_plain.specs.Table.{HeldView}
+use Rattle.xf_held.specs.View.{HeldView}
 use Rattle.xf_plain.proofs.Founds.{latest_but-found}
 use Rattle.xf_plain.proofs.table.StateTable.latest_but.Goals as goal
 

@@ -1,7 +1,7 @@
 use Rattle.std.proofs.Common.{arith, ◌≡◌, ◌-◌, suc, ap, sym, ◌∙◌, subst, drop}
 use Rattle.std.specs.Prelude.{None}
 use Rattle.xf_types.specs.StateList.{has_id, last_of}
-use Rattle.xf_plain.specs.Table.{HeldView}
+use Rattle.xf_held.specs.View.{HeldView}
 use Rattle.xf_plain.proofs.Founds.{place-found, place-past}
 use Rattle.xf_plain.proofs.table.StateTable.place_of.Goals as goal
 

@@ -2,7 +2,8 @@ use Rattle.std.proofs.Common.{ap, sym, ◌∙◌, refl, set}
 use Rattle.std.proofs.lemmas.Bool.{true≢false}
 use Rattle.xf_types.specs.TrafficRules.{packet_at}
 use Rattle.xf_types.specs.StateList.{has_sid}
-use Rattle.xf_plain.specs.Table.{HeldView, table_of, table_without}
+use Rattle.xf_held.specs.View.{HeldView}
+use Rattle.xf_plain.specs.Table.{table_of, table_without}
 use Rattle.xf_plain.proofs.Fates.{AreApart-set, puts-at, sid-fated}
 use Rattle.xf_plain.proofs.Founds.{states-within}
 use Rattle.xf_plain.proofs.table.StateTable.receive.Goals as goal

@@ -3,7 +3,8 @@ use Rattle.std.proofs.lemmas.Fn.{filter_same}
 use Rattle.std.proofs.lemmas.List.Kept.{AllPairs-filter}
 use Rattle.xf_types.specs.declared.state.Sa.{Sa}
 use Rattle.xf_types.specs.StateList.{has_sid}
-use Rattle.xf_plain.specs.Table.{HeldView, table_of, table_without}
+use Rattle.xf_held.specs.View.{HeldView}
+use Rattle.xf_plain.specs.Table.{table_of, table_without}
 use Rattle.xf_plain.proofs.Tables.{AreApart, table_of-left}
 use Rattle.xf_plain.proofs.table.StateTable.remove.Goals as goal
 

@@ -1,7 +1,8 @@
 use Rattle.std.proofs.Common.{◌≡◌, not, ap, sym, subst, ◌∙◌, ◌<◌, filter, ◌++◌, ◌∷◌, [], All}
 use Rattle.xf_types.specs.declared.state.Sa.{Sa}
 use Rattle.xf_types.specs.StateList.{is_that}
-use Rattle.xf_plain.specs.Table.{HeldView, TableView, table_of, table_with, table_without}
+use Rattle.xf_held.specs.View.{HeldView}
+use Rattle.xf_plain.specs.Table.{TableView, table_of, table_with, table_without}
 use Rattle.xf_plain.proofs.Fates.{AreApart-replaced}
 use Rattle.xf_plain.proofs.Tables.{AreApart, table_of-left, table_of-more}
 use Rattle.xf_plain.proofs.table.StateTable.replace.Goals as goal

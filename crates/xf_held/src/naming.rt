@@ -14,7 +14,7 @@ fn has_mark(mark: u32, of: &Mark) -> bool
 }
 
 /// Whether the id names the state.
-pub(crate) fn has_id(id: &SaId, state: &Sa) -> bool
+pub fn has_id(id: &SaId, state: &Sa) -> bool
     ensures { result ≡ list.has_id id.now state.now }
 {
     let spec = &state.spec;
@@ -25,7 +25,7 @@ pub(crate) fn has_id(id: &SaId, state: &Sa) -> bool
 }
 
 /// What a new state is looked for under.
-pub(crate) fn id_of(spec: &SaSpec) -> SaId
+pub fn id_of(spec: &SaSpec) -> SaId
     ensures { result ≡ list.id_of spec.now }
 {
     SaId {
@@ -37,7 +37,7 @@ pub(crate) fn id_of(spec: &SaSpec) -> SaId
 }
 
 /// Whether the state waits for the one that is asked for.
-pub(crate) fn is_larval_of(spec: &SaSpec, state: &Sa) -> bool
+pub fn is_larval_of(spec: &SaSpec, state: &Sa) -> bool
     ensures { result ≡ list.is_larval_of spec.now state.now }
 {
     state.larval
@@ -47,7 +47,7 @@ pub(crate) fn is_larval_of(spec: &SaSpec, state: &Sa) -> bool
 }
 
 /// Whether the state is that one, where there is one.
-pub(crate) fn is_that(one: &Option<Sa>, state: &Sa) -> bool
+pub fn is_that(one: &Option<Sa>, state: &Sa) -> bool
     ensures { result ≡ list.is_that one.now state.now }
 {
     match one {
@@ -66,7 +66,7 @@ fn meets_addr(wanted: &Option<Addr>, addr: &Addr) -> bool
 }
 
 /// Whether the state is of this protocol, or of any.
-pub(crate) fn meets_proto(wanted: Option<Proto>, proto: Proto) -> bool
+pub fn meets_proto(wanted: Option<Proto>, proto: Proto) -> bool
     ensures { result ≡ test.meets_one test.same_proto wanted proto }
 {
     match wanted {
@@ -94,7 +94,7 @@ fn meets_number(wanted: Option<u32>, number: u32) -> bool
 }
 
 /// Whether the state meets each condition that is given.
-pub(crate) fn admits(filter: &SaFilter, state: &Sa) -> bool
+pub fn admits(filter: &SaFilter, state: &Sa) -> bool
     ensures { result ≡ list.state_meets filter.now state.now }
 {
     let spec = &state.spec;
@@ -107,7 +107,7 @@ pub(crate) fn admits(filter: &SaFilter, state: &Sa) -> bool
 }
 
 /// The state that a packet is for.
-pub(crate) fn id_of_packet(packet: &Packet) -> SaId
+pub fn id_of_packet(packet: &Packet) -> SaId
     ensures { result ≡ traffic.id_of_packet packet.now }
 {
     SaId {

@@ -1,7 +1,7 @@
 //! A state with what it keeps for itself.
 ghost use Rattle.std.specs.Prelude.{◌≡◌, IfOk};
 ghost use Rattle.xf_life.specs.Shown.{shown};
-ghost use Rattle.xf_plain.specs.Table.{new_held};
+ghost use Rattle.xf_held.specs.View.{new_held};
 ghost use Rattle.xf_types.specs.TrafficRules.{verdict_at, charged};
 ghost use Rattle.xf_types.specs.StateRules.{refreshed_record};
 
@@ -13,14 +13,14 @@ use xf_types::{NoMemory, Sa, SaSpec};
 
 /// A state as it is listed, and its own part.
 #[derive(Debug, Drop)]
-pub(crate) struct Held {
+pub struct Held {
     pub(crate) state: Sa,
     pub(crate) own: Own,
 }
 
 impl Model for Held {
     ghost use Rattle.std.specs.Prelude.{◌≡◌};
-    ghost use Rattle.xf_plain.specs.Table.{HeldView, held, own_shown};
+    ghost use Rattle.xf_held.specs.View.{HeldView, held, own_shown};
 
     ghost Value = { HeldView };
 
@@ -30,10 +30,10 @@ impl Model for Held {
 }
 
 impl Held {
-    ghost use Rattle.xf_plain.specs.Table.{held};
+    ghost use Rattle.xf_held.specs.View.{held};
 
     /// A new state in use, which has accepted and sent the numbers that the request gives.
-    pub(crate) fn new(alloc: Global, sid: u64, added: u64, spec: &SaSpec) -> Result<Held, NoMemory>
+    pub fn new(alloc: Global, sid: u64, added: u64, spec: &SaSpec) -> Result<Held, NoMemory>
         ensures { IfOk result (λ h. h ≡ new_held sid added spec.now) }
     {
         let window = match Window::new(alloc, spec.window, spec.in_seq) {
@@ -58,8 +58,15 @@ impl Held {
         })
     }
 
+    /// The state's record.
+    pub fn state(&self) -> &Sa
+        ensures { result.now ≡ self.now.state }
+    {
+        &self.state
+    }
+
     /// What the state's limits say of it.
-    pub(crate) fn verdict(&self, now: u64) -> Verdict
+    pub fn verdict(&self, now: u64) -> Verdict
         ensures { shown result ≡ verdict_at now self.now.state self.now.own }
     {
         let own = &self.own;
@@ -74,7 +81,7 @@ impl Held {
     }
 
     /// Counts a packet of so many bytes. The counts stop at their greatest number.
-    pub(crate) fn charge(&mut self, len: u32, now: u64)
+    pub fn charge(&mut self, len: u32, now: u64)
         ensures { self.new ≡ held self.old.state (charged len now self.old.own) }
     {
         let own = &mut self.own;
@@ -86,7 +93,7 @@ impl Held {
     }
 
     /// Takes over the limits of the request, and its selector where it has one.
-    pub(crate) fn refresh(&mut self, spec: &SaSpec)
+    pub fn refresh(&mut self, spec: &SaSpec)
         ensures { self.new ≡ held (refreshed_record spec.now self.old.state) self.old.own }
     {
         self.state.refresh(spec);

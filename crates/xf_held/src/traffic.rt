@@ -1,7 +1,7 @@
 //! What a packet does to one state (RFC 4303, 3.4).
 ghost use Rattle.std.specs.Prelude.{◌≡◌, false};
-ghost use Rattle.xf_plain.specs.Table.{fated, is_end};
-ghost use Rattle.xf_plain.specs.Traffic.{Does};
+ghost use Rattle.xf_held.specs.View.{fated, is_end};
+ghost use Rattle.xf_held.specs.Traffic.{Does};
 ghost use Rattle.xf_replay.specs.Replay.{replay_check};
 ghost use Rattle.xf_replay.specs.declared.window.Check.TheVariants.{Fresh};
 ghost use Rattle.xf_types.specs.TrafficRules.{packet_at, within_limits, verdict_at, by_integrity};
@@ -13,9 +13,9 @@ use xf_types::{Packet, Reply};
 
 /// The reply to a packet, and whether the state is at its end.
 #[derive(Debug, Drop)]
-pub(crate) struct Treatment {
-    pub(crate) reply: Reply,
-    pub(crate) ends: bool,
+pub struct Treatment {
+    pub reply: Reply,
+    pub ends: bool,
 }
 
 fn goes_on(reply: Reply) -> Treatment
@@ -63,7 +63,7 @@ impl Held {
     }
 
     /// A packet to this state. The window is asked first, then the limits, and the integrity last.
-    pub(crate) fn receive(&mut self, packet: &Packet, now: u64) -> Treatment
+    pub fn receive(&mut self, packet: &Packet, now: u64) -> Treatment
         ensures { Does result self.old self.new (packet_at packet.now now self.old.state self.old.own) }
     {
         if self.state.larval {

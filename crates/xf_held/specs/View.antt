@@ -1,0 +1,40 @@
+-- One state with its own part.
+use Rattle.std.specs.Prelude.{ℕ, Bool, true, false}
+use Rattle.xf_types.specs.declared.state.Sa.{Sa}
+use Rattle.xf_types.specs.declared.state.SaSpec.{SaSpec}
+use Rattle.xf_types.specs.Machine.{Own}
+use Rattle.xf_types.specs.OwnParts.{new_own}
+use Rattle.xf_types.specs.OneState.{dying_if}
+use Rattle.xf_types.specs.TrafficRules.{Fate, Same, Ends, Becomes}
+use Rattle.xf_replay.specs.declared.own.Own.{Own as OwnPart}
+
+-- a state with its own part
+pub record HeldView : Type 0 where
+  pub state : Sa
+  pub own : Own
+
+-- from its two parts
+abbrev pub held : Sa → Own → HeldView
+held s o = record { state = s; own = o }
+
+-- an own part as the machine has it: the window tells the accepted numbers
+abbrev pub own_shown : OwnPart → Own
+own_shown o =
+    record { accepted = o.window.accepted; sent = o.out; packets = o.packets; bytes = o.bytes; first_use = o.first }
+
+-- a new state in use, with the own part that it begins with
+abbrev pub new_held : ℕ → ℕ → SaSpec → HeldView
+new_held sid added spec =
+    held (record { sid = sid; added = added; larval = false; dying = false; spec = spec }) (new_own spec)
+
+-- a state with its own part after its fate; one that ends leaves the list as it was
+abbrev pub fated : HeldView → Fate → HeldView
+fated h Same = h
+fated h Ends = h
+fated h (Becomes soft own) = held (dying_if soft h.state) own
+
+-- the state ends
+abbrev pub is_end : Fate → Bool
+is_end Same = false
+is_end Ends = true
+is_end (Becomes soft own) = false
