@@ -1,6 +1,7 @@
 //! One state with what it keeps for itself: what names it, what its limits say, and what a packet does to it.
 #![tactic(auto)]
 
+mod aging;
 mod held;
 mod laws;
 mod naming;
