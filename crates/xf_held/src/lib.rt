@@ -4,6 +4,7 @@
 mod held;
 mod laws;
 mod naming;
+mod output;
 mod traffic;
 
 pub use held::Held;
