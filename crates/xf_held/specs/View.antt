@@ -27,6 +27,11 @@ pub record FitsRecord (s : Sa) (o : OwnPart) : Type 0 where
   pub window : o.window.size ≡ s.spec.window
   pub sent : o.out ≤ last_number s
 
+-- a new record of a state with numbers of the same kind
+pub record KeepsNumbers (old new : Sa) : Type 0 where
+  pub window : new.spec.window ≡ old.spec.window
+  pub esn : new.spec.esn ≡ old.spec.esn
+
 -- a new state in use, with the own part that it begins with
 abbrev pub new_held : ℕ → ℕ → SaSpec → HeldView
 new_held sid added spec =

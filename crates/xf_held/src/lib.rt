@@ -1,10 +1,12 @@
 //! One state with what it keeps for itself: what names it, what its limits say, and what a packet does to it.
 #![tactic(auto)]
 
+mod foresight;
 mod held;
 mod laws;
 mod naming;
 mod output;
+mod parts;
 mod traffic;
 
 pub use held::Held;

@@ -8,7 +8,7 @@ use xf_life::Verdict;
 use xf_types::Reply;
 
 /// The greatest number that is sent.
-const LAST_NUMBER: u64 = (1 << 32) - 1;
+pub(crate) const LAST_NUMBER: u64 = (1 << 32) - 1;
 
 impl Held {
     /// An output from a state within its hard limits. `soft` says that the state is newly dying.
