@@ -6,6 +6,8 @@ mod answer;
 mod laws;
 mod listed;
 mod local;
+#[cfg(test)]
+mod tests;
 mod traffic;
 
 pub use answer::{Inbound, Outbound};

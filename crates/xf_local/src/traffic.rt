@@ -12,16 +12,14 @@ impl Local {
     pub fn would(&self, packet: &Packet) -> Inbound
         ensures { inward_shown result ≡ tried_answer self.now (Inward packet.now) }
     {
-        match &self.live {
-            None => Inbound::Dead,
-            Some(live) => {
-                let reply = live.foresee_packet(packet);
-                if needs_turn(&reply) {
-                    Inbound::NeedsTurn
-                } else {
-                    Inbound::Answer(reply)
-                }
-            }
+        let Some(live) = &self.live else {
+            return Inbound::Dead;
+        };
+        let reply = live.foresee_packet(packet);
+        if needs_turn(&reply) {
+            Inbound::NeedsTurn
+        } else {
+            Inbound::Answer(reply)
         }
     }
 
