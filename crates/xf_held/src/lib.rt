@@ -2,9 +2,12 @@
 #![tactic(auto)]
 
 mod aging;
+mod foresight;
 mod held;
 mod laws;
 mod naming;
+mod output;
+mod parts;
 mod traffic;
 
 pub use held::Held;
