@@ -1,7 +1,9 @@
 -- What is found in what is held is what is found in the states.
-use Rattle.std.proofs.Common.{◌≡◌, ℕ, suc, ◌+◌, ◌<◌, ◌==◌, Bool, true, false, cond, not, ◌&&◌, List, [], ◌∷◌, ◌++◌, length, get_or, drop, take, filter, map, refl, ap, sym, ◌∙◌, subst, eqb-true}
-use Rattle.std.specs.Prelude.{Option, None, slice_get}
+use Rattle.std.proofs.Common.{◌≡◌, ℕ, suc, ◌+◌, ◌<◌, ◌==◌, Bool, true, false, cond, not, ◌&&◌, List, [], ◌∷◌, ◌++◌, length, get_or, drop, take, filter, map, refl, ap, sym, ◌∙◌, subst, eqb-true, nat_lt, arith}
+use Rattle.std.specs.Prelude.{find, position, IfSome, Option, None, Some, slice_get}
+use Rattle.std.specs.List.{position_or_len}
 use Rattle.std.specs.Option.{option_map}
+use Rattle.std.proofs.lemmas.Bool.Decides.{nat_tests}
 use Rattle.std.proofs.lemmas.List.{append-nil, get_or-map, length-map}
 use Rattle.std.proofs.lemmas.List.Elements.{filter_more}
 use Rattle.xf_types.specs.declared.state.Sa.{Sa}
@@ -10,7 +12,7 @@ use Rattle.xf_types.specs.declared.state.SaSpec.{SaSpec}
 use Rattle.xf_types.specs.PolicyList.{without}
 use Rattle.xf_types.specs.StateList.{last_of, latest_match, larval_replaced, has_id, is_larval_of, is_that}
 use Rattle.xf_held.specs.View.{HeldView}
-use Rattle.xf_plain.specs.Table.{TableView, table_of}
+use Rattle.xf_plain.specs.Table.{TableView, table_of, state_at}
 use Rattle.xf_plain.proofs.Lasts.{last_of-map, last_of-filter, last_of-at, last_of-past}
 
 not-zero : (n : ℕ) → (n ≡ 0 → ⊥) → (n == 0) ≡ false
@@ -84,3 +86,50 @@ listed-passed test hs t i h s old is_t within at is fails so =
     so ∙ sym (append-nil (filter test (take i t.states)))
     ∙ ap (λ b. filter test (take i t.states) ++ cond b (s ∷ []) []) (sym fails)
     ∙ ap (λ (x : Sa). filter test (take i t.states) ++ cond (test x) (x ∷ []) []) is ∙ sym (listed-more test hs t i h is_t within at)
+
+-- ---- the first one
+
+later-place : (a b : ℕ) → nat_lt (1 + a) (suc b) ≡ nat_lt a b
+later-place a b = grind (arith, nat_tests)
+
+first-place : (n : ℕ) → nat_lt 0 (suc n) ≡ true
+first-place n = grind (arith, nat_tests)
+
+behind-one : (n : ℕ) → 1 + n ≡ suc n
+behind-one n = omega arith
+
+-- the state at the place of the first one that passes is the first state that passes
+pub first-found : (test : Sa → Bool) (hs : List HeldView)
+    → state_at (map (λ (h : HeldView). h.state) hs) (position (λ h. test h.state) hs) ≡ find test (map (λ (h : HeldView). h.state) hs)
+first-found test [] = refl
+first-found test (h ∷ hs) = by (test h.state) (first-found test hs)
+  where
+    states : List Sa
+    states = map (λ (x : HeldView). x.state) hs
+    place : ℕ
+    place = position_or_len (λ (x : HeldView). test x.state) hs
+
+    by : (b : Bool) → state_at states (cond (nat_lt place (length hs)) (Some place) None) ≡ find test states
+        → state_at (h.state ∷ states) (cond (nat_lt (cond (not b) (1 + place) 0) (suc (length hs))) (Some (cond (not b) (1 + place) 0)) None) ≡ cond b (Some h.state) (find test states)
+    by true rest = ap (λ c. state_at (h.state ∷ states) (cond c (Some 0) None)) (first-place (length hs))
+    by false rest =
+        ap (λ c. state_at (h.state ∷ states) (cond c (Some (1 + place)) None)) (later-place place (length hs))
+        ∙ later (nat_lt place (length hs)) ∙ rest
+      where
+        later : (c : Bool) → state_at (h.state ∷ states) (cond c (Some (1 + place)) None) ≡ state_at states (cond c (Some place) None)
+        later true = ap (slice_get (h.state ∷ states)) (behind-one place)
+        later false = refl
+
+-- which is within the list
+pub first-within : (test : HeldView → Bool) (hs : List HeldView) (t : TableView) → table_of hs ≡ t
+    → IfSome (position test hs) (λ place. place < length t.states)
+first-within test hs t is_t =
+    subst (λ (u : TableView). IfSome (position test hs) (λ place. place < length u.states)) is_t
+    (subst (λ n. IfSome (position test hs) (λ place. place < n)) (sym (length-map hs (λ (h : HeldView). h.state)))
+    (by (nat_lt place (length hs)) refl))
+  where
+    place : ℕ
+    place = position_or_len test hs
+    by : (b : Bool) → nat_lt place (length hs) ≡ b → IfSome (cond b (Some place) None) (λ p. p < length hs)
+    by true e = grind (arith, nat_tests, e)
+    by false e = tt

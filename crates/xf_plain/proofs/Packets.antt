@@ -1,5 +1,5 @@
--- What a packet does to the machine.
-use Rattle.std.proofs.Common.{arith, ◌≡◌, ◌≢◌, ℕ, ◌<◌, Bool, true, false, cond, not, length, ap, sym, subst, ◌∙◌, refl}
+-- What a packet or an output does to the machine.
+use Rattle.std.proofs.Common.{arith, ◌≡◌, ◌≢◌, ℕ, ◌<◌, Bool, true, false, cond, not, length, ap, sym, subst, ◌∙◌, refl, ◌==◌, ◌+◌}
 use Rattle.std.specs.Prelude.{Option, None, Some, IfSome, slice_get}
 use Rattle.xf_types.specs.declared.state.Sa.{Sa}
 use Rattle.xf_types.specs.declared.state.SaId.{SaId}
@@ -14,7 +14,7 @@ use Rattle.xf_types.specs.OneState.{on_found, put_back}
 use Rattle.xf_types.specs.OwnParts.{own_in}
 use Rattle.xf_types.specs.Replay.{Fresh, Zero, Old, Seen, replay_check, accepted_with, top}
 use Rattle.xf_types.specs.StateList.{latest_match}
-use Rattle.xf_types.specs.TrafficRules.{Fate, Same, Ends, Becomes, treated, charged, packet_at, by_window, by_integrity, within_limits, verdict_at, id_of_packet}
+use Rattle.xf_types.specs.TrafficRules.{Fate, Same, Ends, Becomes, Treated, treated, charged, last_number, output_at, sent_or_overflow, packet_at, by_window, by_integrity, within_limits, verdict_at, id_of_packet}
 use Rattle.xf_plain.specs.Growth.{GrowsLittle}
 use Rattle.xf_plain.specs.Table.{TableView, Puts, own_in_table, table_put}
 use Rattle.xf_plain.proofs.KeptStates.{at-some}
@@ -51,19 +51,51 @@ settled-packet p now s own =
       ]
     ]
 
-settled-treated : (p : Packet) (now : ℕ) (r : Reply) (old new : TableView) (place : ℕ) → place < length old.states
-    → IfSome (slice_get old.states place) (λ s. Puts r old new s (packet_at p now s (own_in_table old s))) → IsSettled r
-settled-treated p now r old new place within puts =
-    at-some (λ s. Puts r old new s (packet_at p now s (own_in_table old s))) (IsSettled r) old.states place within puts
-    (λ s at put. subst IsSettled (sym put.is_reply) (settled-packet p now s (own_in_table old s)))
+settled-sent : (len now : ℕ) (s : Sa) (own : Own) (soft : Bool) → IsSettled (sent_or_overflow now s own len soft).reply
+settled-sent len now s own soft =
+    elim (own.sent == last_number s)
+    as (λ b. IsSettled (cond b (treated (reply.Overflow soft) (Becomes soft own)) (treated (reply.Sent s.spec.proto s.spec.spi (own.sent + 1) soft) (Becomes soft (charged len now (record own { sent = own.sent + 1 }))))).reply) [
+      | true ↦ record { memory = λ e. absurd cc; settled = refl }
+      | false ↦ record { memory = λ e. absurd cc; settled = refl }
+    ]
 
-pub memory-treated : (p : Packet) (now : ℕ) (r : Reply) (old new : TableView) (place : ℕ) → place < length old.states
-    → IfSome (slice_get old.states place) (λ s. Puts r old new s (packet_at p now s (own_in_table old s))) → r ≢ NoMemory
-memory-treated p now r old new place within puts = (settled-treated p now r old new place within puts).memory
+settled-output : (len now : ℕ) (s : Sa) (own : Own) → IsSettled (output_at len now s own).reply
+settled-output len now s own =
+    elim (verdict_at now s own) as (λ v. IsSettled (within_limits s v (sent_or_overflow now s own len)).reply) [
+      | Hard ↦ record { memory = λ e. absurd cc; settled = refl }
+      | Soft ↦ settled-sent len now s own (not s.dying)
+      | Fine ↦ settled-sent len now s own false
+    ]
 
-pub contended-treated : (p : Packet) (now : ℕ) (r : Reply) (old new : TableView) (place : ℕ) → place < length old.states
-    → IfSome (slice_get old.states place) (λ s. Puts r old new s (packet_at p now s (own_in_table old s))) → is_contended r ≡ false
-contended-treated p now r old new place within puts = (settled-treated p now r old new place within puts).settled
+-- a rule of one state, done in the table
+abbrev pub IsTreated : (Sa → Own → Treated) → Reply → TableView → TableView → ℕ → Type 0
+IsTreated rule r old new place = IfSome (slice_get old.states place) (λ s. Puts r old new s (rule s (own_in_table old s)))
+
+settled-treated : (rule : Sa → Own → Treated) (r : Reply) (old new : TableView) (place : ℕ) → ((s : Sa) (own : Own) → IsSettled (rule s own).reply)
+    → place < length old.states → IsTreated rule r old new place → IsSettled r
+settled-treated rule r old new place settled within puts =
+    at-some (λ s. Puts r old new s (rule s (own_in_table old s))) (IsSettled r) old.states place within puts
+    (λ s at put. subst IsSettled (sym put.is_reply) (settled s (own_in_table old s)))
+
+pub memory-packet : (p : Packet) (now : ℕ) (r : Reply) (old new : TableView) (place : ℕ) → place < length old.states
+    → IsTreated (packet_at p now) r old new place → r ≢ NoMemory
+memory-packet p now r old new place within puts =
+    (settled-treated (packet_at p now) r old new place (settled-packet p now) within puts).memory
+
+pub contended-packet : (p : Packet) (now : ℕ) (r : Reply) (old new : TableView) (place : ℕ) → place < length old.states
+    → IsTreated (packet_at p now) r old new place → is_contended r ≡ false
+contended-packet p now r old new place within puts =
+    (settled-treated (packet_at p now) r old new place (settled-packet p now) within puts).settled
+
+pub memory-output : (len now : ℕ) (r : Reply) (old new : TableView) (place : ℕ) → place < length old.states
+    → IsTreated (output_at len now) r old new place → r ≢ NoMemory
+memory-output len now r old new place within puts =
+    (settled-treated (output_at len now) r old new place (settled-output len now) within puts).memory
+
+pub contended-output : (len now : ℕ) (r : Reply) (old new : TableView) (place : ℕ) → place < length old.states
+    → IsTreated (output_at len now) r old new place → is_contended r ≡ false
+contended-output len now r old new place within puts =
+    (settled-treated (output_at len now) r old new place (settled-output len now) within puts).settled
 
 -- ---- the machine
 
@@ -81,22 +113,20 @@ put_back-table m s Same = refl
 put_back-table m s Ends = refl
 put_back-table m s (Becomes soft own) = refl
 
--- a packet's answer is the machine's
-pub answers-treated : (m : Machine) (p : Packet) (id : SaId) (r : Reply) (new : TableView) (place : ℕ) → place < length m.shown.states
-    → id ≡ id_of_packet p → slice_get m.shown.states place ≡ latest_match m.shown.states id
-    → IfSome (slice_get m.shown.states place) (λ s. Puts r (table_in m) new s (packet_at p m.shown.time s (own_in_table (table_in m) s)))
-    → outcome r (with_table m new) ≡ on_found m NoState (packet_at p) (latest_match m.shown.states (id_of_packet p))
-answers-treated m p id r new place within named found puts =
-    at-some (λ s. Puts r (table_in m) new s (packet_at p m.shown.time s (own_in_table (table_in m) s)))
-    (outcome r (with_table m new) ≡ on_found m NoState (packet_at p) (latest_match m.shown.states (id_of_packet p)))
-    m.shown.states place within puts
+-- what was answered for the state that was found is the machine's answer
+pub answers-treated : (m : Machine) (rule : ℕ → Sa → Own → Treated) (missing : Reply) (found : Option Sa) (r : Reply) (new : TableView) (place : ℕ)
+    → place < length m.shown.states → slice_get m.shown.states place ≡ found → IsTreated (rule m.shown.time) r (table_in m) new place
+    → outcome r (with_table m new) ≡ on_found m missing rule found
+answers-treated m rule missing found r new place within is puts =
+    at-some (λ s. Puts r (table_in m) new s (rule m.shown.time s (own_in_table (table_in m) s)))
+    (outcome r (with_table m new) ≡ on_found m missing rule found) m.shown.states place within puts
     (λ s at put.
-    let rule = packet_at p m.shown.time s (own_in m s) in
+    let did = rule m.shown.time s (own_in m s) in
     (λ i. outcome (put.is_reply i) (with_table m (put.is_put i)))
-    ∙ ap (outcome rule.reply) (put_back-table m s rule.fate)
-    ∙ ap (on_found m NoState (packet_at p)) (sym at ∙ found ∙ ap (latest_match m.shown.states) named))
+    ∙ ap (outcome did.reply) (put_back-table m s did.fate)
+    ∙ ap (on_found m missing rule) (sym at ∙ is))
 
--- a packet adds no policy and no state
+-- a rule of one state adds no policy and no state
 grows-same : (m n : Machine) → n.shown.next_number ≡ m.shown.next_number → n.shown.next_sid ≡ m.shown.next_sid → GrowsLittle m.shown n.shown
 grows-same m n numbers sids = record { numbers = omega (arith, numbers); sids = omega (arith, sids) }
 
@@ -105,8 +135,8 @@ grows-put m n s Same e = grows-same m n (ap (λ (k : Machine). k.shown.next_numb
 grows-put m n s Ends e = grows-same m n (ap (λ (k : Machine). k.shown.next_number) e) (ap (λ (k : Machine). k.shown.next_sid) e)
 grows-put m n s (Becomes soft own) e = grows-same m n (ap (λ (k : Machine). k.shown.next_number) e) (ap (λ (k : Machine). k.shown.next_sid) e)
 
-pub grows-found : (m n : Machine) (p : Packet) (r : Reply) (found : Option Sa) → outcome r n ≡ on_found m NoState (packet_at p) found
-    → GrowsLittle m.shown n.shown
-grows-found m n p r None e = grows-same m n (ap (λ (o : Outcome). o.machine.shown.next_number) e) (ap (λ (o : Outcome). o.machine.shown.next_sid) e)
-grows-found m n p r (Some s) e =
-    grows-put m n s (packet_at p m.shown.time s (own_in m s)).fate (ap (λ (o : Outcome). o.machine) e)
+pub grows-found : (m n : Machine) (rule : ℕ → Sa → Own → Treated) (missing r : Reply) (found : Option Sa)
+    → outcome r n ≡ on_found m missing rule found → GrowsLittle m.shown n.shown
+grows-found m n rule missing r None e = grows-same m n (ap (λ (o : Outcome). o.machine.shown.next_number) e) (ap (λ (o : Outcome). o.machine.shown.next_sid) e)
+grows-found m n rule missing r (Some s) e =
+    grows-put m n s (rule m.shown.time s (own_in m s)).fate (ap (λ (o : Outcome). o.machine) e)

@@ -237,6 +237,7 @@ impl Plain {
             Call::StateCount => self.state_count(),
             Call::Flow(flow) => self.flow(flow),
             Call::Packet(packet) => self.packet(packet),
+            Call::Output { sid, len } => self.output(*sid, *len),
             Call::Tick(given) => self.tick(*given),
             _ => unreachable!(),
         }

@@ -1,12 +1,12 @@
 //! The state list: each state with its own part, in the order of adding.
-ghost use Rattle.std.specs.Prelude.{◌≡◌, ◌<◌, ◌≤◌, ◌&&◌, ◌++◌, [], not, All, IfOk, IfSome, OnOk, OnErr, option_copied, Some, count_by, filter, filter_map, map, zip, length, slice_get, vec_capacity};
+ghost use Rattle.std.specs.Prelude.{◌≡◌, ◌<◌, ◌≤◌, ◌&&◌, ◌++◌, [], not, All, IfOk, IfSome, OnOk, OnErr, option_copied, Some, count_by, filter, filter_map, find, map, position, zip, length, slice_get, vec_capacity};
 ghost use Rattle.xf_plain.specs.Table.{Puts, own_in_table, table_of, table_with, table_without, table_changed, table_later, held_later, pair_of, state_at};
 ghost use Rattle.xf_types.specs.StateList.{latest_match, last_of, has_id, has_sid, is_larval_of, is_that, state_meets, larval_replaced};
 ghost use Rattle.xf_types.specs.StateRules.{refreshed_record};
 ghost use Rattle.xf_types.specs.PolicyList.{without};
 ghost use Rattle.xf_types.specs.Same.{meets_one, same_proto};
 ghost use Rattle.xf_types.specs.TickRules.{state_ends, state_event};
-ghost use Rattle.xf_types.specs.TrafficRules.{packet_at};
+ghost use Rattle.xf_types.specs.TrafficRules.{output_at, packet_at};
 
 use crate::aging::push_some;
 use std::alloc::{AllocError, Global};
@@ -61,6 +61,14 @@ impl StateTable {
             }
         }
         None
+    }
+
+    /// Where the state stands that has this state id.
+    pub(crate) fn place_of_sid(&self, sid: u64) -> Option<usize>
+        ensures state { state_at self.now.states result ≡ find (has_sid sid) self.now.states }
+        ensures within { IfSome result (λ place. place < length self.now.states) }
+    {
+        position_of(&self.held, sid)
     }
 
     /// The state at a place.
@@ -200,6 +208,21 @@ impl StateTable {
         did.reply
     }
 
+    /// An output of so many bytes from the state at a place. A state at its end leaves.
+    pub(crate) fn send(&mut self, place: usize, len: u32, now: u64) -> Reply
+        requires { place < length self.old.states }
+        ensures { IfSome (slice_get self.old.states place)
+            (λ s. Puts result self.old self.new s (output_at len now s (own_in_table self.old s))) }
+    {
+        let held = &mut self.held[place];
+        let sid = held.state().sid;
+        let did = held.send(len, now);
+        if did.ends {
+            self.remove(sid);
+        }
+        did.reply
+    }
+
     /// Puts what is reported of the states at a time behind the events so far.
     pub(crate) fn report(&self, now: u64, events: &mut Vec<Event>) -> Result<(), NoMemory>
         ensures { OnOk result
@@ -267,4 +290,11 @@ fn age_all(held: &mut Vec<Held>, now: u64)
     for one in held.iter_mut() {
         one.age(now);
     }
+}
+
+/// Where the first one stands that has this state id.
+fn position_of(held: &[Held], sid: u64) -> Option<usize>
+    ensures { result ≡ position (λ h. has_sid sid h.state) held.now }
+{
+    held.iter().position(|h| h.state().sid == sid)
 }

@@ -1,5 +1,5 @@
-//! Calls on states, and packets.
-ghost use Rattle.std.specs.Prelude.{◌≡◌, ◌≢◌, ◌<◌, ◌^◌, IfOk, OnOk, OnErr, IfSome, Some, None, length, slice_get, false};
+//! Calls on states, packets and outputs.
+ghost use Rattle.std.specs.Prelude.{◌≡◌, ◌≢◌, ◌<◌, ◌^◌, IfOk, OnOk, OnErr, IfSome, Some, None, find, length, slice_get, false};
 
 use super::Plain;
 use xf_held::{Held, id_of, id_of_packet};
@@ -10,10 +10,10 @@ impl Plain {
     ghost use Rattle.xf_types.specs.Changes.{applied, machine_after, LeaveThen};
     ghost use Rattle.xf_types.specs.History.{is_contended};
     ghost use Rattle.xf_types.specs.OneState.{on_found};
-    ghost use Rattle.xf_types.specs.StateList.{is_that, latest_match};
+    ghost use Rattle.xf_types.specs.StateList.{has_sid, is_that, latest_match};
     ghost use Rattle.xf_types.specs.StateRules.{state_added_if_room, state_add, state_update, state_updated, state_delete, state_get, state_deleteall, state_list, state_flush, state_count};
-    ghost use Rattle.xf_types.specs.TrafficRules.{packet_at, id_of_packet};
-    ghost use Rattle.xf_types.specs.declared.call.Reply.TheVariants.{NoState};
+    ghost use Rattle.xf_types.specs.TrafficRules.{output_at, packet_at, id_of_packet};
+    ghost use Rattle.xf_types.specs.declared.call.Reply.TheVariants.{NoState, Stale};
 
     /// Lists a new state in use. That one leaves, where there is one.
     fn put_state(&mut self, one: &Option<Sa>, spec: &SaSpec) -> Result<u64, NoMemory>
@@ -170,6 +170,18 @@ impl Plain {
         match self.states.place_of(&id_of_packet(packet)) {
             None => Reply::NoState,
             Some(place) => self.states.receive(place, packet, self.time),
+        }
+    }
+
+    pub(super) fn output(&mut self, sid: u64, len: u32) -> Reply
+        ensures answer { outcome result self.new ≡ on_found self.old Stale (output_at len)
+            (find (has_sid sid) self.old.shown.states) }
+        ensures memory { result ≢ Reply.NoMemory }
+        ensures settled { is_contended result ≡ false }
+    {
+        match self.states.place_of_sid(sid) {
+            None => Reply::Stale,
+            Some(place) => self.states.send(place, len, self.time),
         }
     }
 }

@@ -1,4 +1,4 @@
-use Rattle.std.proofs.Common.{◌≡◌, ◌<◌, length, subst}
+use Rattle.std.proofs.Common.{◌<◌, length, subst}
 use Rattle.xf_held.specs.View.{HeldView}
 use Rattle.xf_plain.specs.Table.{held_later}
 use Rattle.xf_plain.proofs.Walks.{mapped-more}

@@ -1,5 +1,7 @@
-use Rattle.xf_types.specs.StateList.{latest_match}
-use Rattle.xf_types.specs.TrafficRules.{id_of_packet}
+use Rattle.std.specs.Prelude.{find}
+use Rattle.xf_types.specs.declared.call.Reply.TheVariants.{NoState, Stale}
+use Rattle.xf_types.specs.StateList.{has_sid, latest_match}
+use Rattle.xf_types.specs.TrafficRules.{id_of_packet, output_at, packet_at}
 use Rattle.xf_plain.proofs.Growing.{GrowsLittle-added, GrowsLittle-updated, GrowsLittle-deleted, GrowsLittle-state_updated}
 use Rattle.xf_plain.proofs.Packets.{grows-found}
 use Rattle.xf_plain.proofs.plain.Plain.step.Goals as goal
@@ -26,5 +28,10 @@ returns-in-StateUpdate-clause-grows c =
 
 pub returns-in-Packet-clause-grows : goal.returns-in-Packet-clause-grows
 returns-in-Packet-clause-grows c =
-    grows-found c.args.self.now c.packet.new.self c.in-Packet.packet c.packet.result
+    grows-found c.args.self.now c.packet.new.self (packet_at c.in-Packet.packet) NoState c.packet.result
     (latest_match c.args.self.now.shown.states (id_of_packet c.in-Packet.packet)) c.packet.ensures.answer
+
+pub returns-in-Output-clause-grows : goal.returns-in-Output-clause-grows
+returns-in-Output-clause-grows c =
+    grows-found c.args.self.now c.output.new.self (output_at c.in-Output.len) Stale c.output.result
+    (find (has_sid c.in-Output.sid) c.args.self.now.shown.states) c.output.ensures.answer

@@ -1,4 +1,4 @@
-use Rattle.std.proofs.Common.{◌≡◌, ap, sym, subst, ◌∙◌, map}
+use Rattle.std.proofs.Common.{ap, sym, subst, ◌∙◌, map}
 use Rattle.xf_plain.specs.Table.{held_later, table_of}
 use Rattle.xf_plain.proofs.Ages.{AreApart-aged, later-held}
 use Rattle.xf_plain.proofs.Tables.{AreApart}

@@ -1,6 +1,5 @@
 use Rattle.std.proofs.Common.{ap, sym, ◌∙◌}
 use Rattle.xf_types.specs.StateList.{state_meets}
-use Rattle.xf_held.specs.View.{HeldView}
 use Rattle.xf_plain.specs.Table.{table_of}
 use Rattle.xf_plain.proofs.Founds.{listed-pushed, listed-passed}
 use Rattle.xf_plain.proofs.table.StateTable.list_admitted.Goals.{then-admits+in_ok-push, else-admits}
