@@ -2,11 +2,12 @@
 #![tactic(auto)]
 
 mod held;
+mod larval;
 mod laws;
 mod naming;
 mod traffic;
 
 pub use held::Held;
 pub use laws::windows_agree;
-pub use naming::{admits, has_id, id_of, id_of_packet, is_larval_of, is_that, meets_proto};
+pub use naming::{admits, has_id, has_mark, id_of, id_of_packet, is_larval_of, is_that, meets_proto};
 pub use traffic::Treatment;
