@@ -1,11 +1,11 @@
 -- One state with its own part.
-use Rattle.std.specs.Prelude.{ℕ, Bool, true, false}
+use Rattle.std.specs.Prelude.{◌≡◌, ◌≤◌, ℕ, Bool, true, false}
 use Rattle.xf_types.specs.declared.state.Sa.{Sa}
 use Rattle.xf_types.specs.declared.state.SaSpec.{SaSpec}
 use Rattle.xf_types.specs.Machine.{Own}
 use Rattle.xf_types.specs.OwnParts.{new_own}
 use Rattle.xf_types.specs.OneState.{dying_if}
-use Rattle.xf_types.specs.TrafficRules.{Fate, Same, Ends, Becomes}
+use Rattle.xf_types.specs.TrafficRules.{Fate, Same, Ends, Becomes, last_number}
 use Rattle.xf_replay.specs.declared.own.Own.{Own as OwnPart}
 
 -- a state with its own part
@@ -21,6 +21,16 @@ held s o = record { state = s; own = o }
 abbrev pub own_shown : OwnPart → Own
 own_shown o =
     record { accepted = o.window.accepted; sent = o.out; packets = o.packets; bytes = o.bytes; first_use = o.first }
+
+-- an own part fits the record: the window has the record's size, and no greater number was sent than may be
+pub record FitsRecord (s : Sa) (o : OwnPart) : Type 0 where
+  pub window : o.window.size ≡ s.spec.window
+  pub sent : o.out ≤ last_number s
+
+-- a new record of a state with numbers of the same kind
+pub record KeepsNumbers (old new : Sa) : Type 0 where
+  pub window : new.spec.window ≡ old.spec.window
+  pub esn : new.spec.esn ≡ old.spec.esn
 
 -- a new state in use, with the own part that it begins with
 abbrev pub new_held : ℕ → ℕ → SaSpec → HeldView

@@ -20,13 +20,13 @@ pub struct Held {
 
 impl Model for Held {
     ghost use Rattle.std.specs.Prelude.{◌≡◌};
-    ghost use Rattle.xf_held.specs.View.{HeldView, held, own_shown};
+    ghost use Rattle.xf_held.specs.View.{HeldView, held, own_shown, FitsRecord};
 
     ghost Value = { HeldView };
 
     ghost view = { λ h. held h.state (own_shown h.own) };
 
-    ghost invariant = { λ h. h.own.window.size ≡ h.state.spec.window };
+    ghost invariant = { λ h. FitsRecord h.state h.own };
 }
 
 impl Held {

@@ -8,12 +8,7 @@ use xf_types::{NoMemory, SaSpec};
 
 impl Held {
     /// A new larval state, which no flow goes through.
-    pub fn new_larval(
-        alloc: Global,
-        sid: u64,
-        added: u64,
-        spec: &SaSpec,
-    ) -> Result<Held, NoMemory>
+    pub fn new_larval(alloc: Global, sid: u64, added: u64, spec: &SaSpec) -> Result<Held, NoMemory>
         ensures { IfOk result (λ h. h ≡ new_larval sid added spec.now) }
     {
         let mut held = Held::new(alloc, sid, added, spec)?;

@@ -18,7 +18,8 @@ pub struct Treatment {
     pub ends: bool,
 }
 
-fn goes_on(reply: Reply) -> Treatment
+/// A reply of a state that is not at its end.
+pub(crate) fn goes_on(reply: Reply) -> Treatment
     ensures { result ≡ record { reply = reply; ends = false } }
 {
     Treatment { reply, ends: false }

@@ -9,3 +9,5 @@ pub mod Founds
 pub mod KeptStates
 pub mod Packets
 pub mod Adding
+pub mod Walks
+pub mod Ages

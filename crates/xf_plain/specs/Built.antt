@@ -3,7 +3,7 @@ use Rattle.std.specs.Prelude.{◌≡◌, Bool, true, false, ◌==◌, [], length
 use Rattle.xf_types.specs.declared.call.Call.{Call}
 use Rattle.xf_types.specs.declared.call.Call.TheVariants as call
 
--- the calls on policies, where those that are added have no templates, those on states but allocspi, flows and packets
+-- the calls on policies, where those that are added have no templates, those on states but allocspi, flows, packets and ticks
 abbrev pub IsBuilt : Call → Type 0
 IsBuilt (call.PolicyAdd spec) = spec.templates ≡ []
 IsBuilt (call.PolicyUpdate spec) = spec.templates ≡ []
@@ -24,6 +24,7 @@ IsBuilt (call.StateFlush proto) = Unit {0}
 IsBuilt call.StateCount = Unit {0}
 IsBuilt (call.Flow flow) = Unit {0}
 IsBuilt (call.Packet packet) = Unit {0}
+IsBuilt (call.Tick given) = Unit {0}
 IsBuilt _ = ⊥
 
 -- the test of this
@@ -47,4 +48,5 @@ is_built (call.StateFlush proto) = true
 is_built call.StateCount = true
 is_built (call.Flow flow) = true
 is_built (call.Packet packet) = true
+is_built (call.Tick given) = true
 is_built _ = false

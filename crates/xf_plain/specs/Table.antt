@@ -1,5 +1,5 @@
 -- The states of a machine, each held with its own part.
-use Rattle.std.specs.Prelude.{◌≡◌, ℕ, Bool, List, [], ◌∷◌, ◌++◌, map, Option, None, Some, slice_get}
+use Rattle.std.specs.Prelude.{◌≡◌, ℕ, Bool, List, [], ◌∷◌, ◌++◌, map, zip, Option, None, Some, slice_get}
 use Rattle.xf_types.specs.declared.state.Sa.{Sa}
 use Rattle.xf_types.specs.Machine.{Own}
 use Rattle.xf_types.specs.PolicyList.{without}
@@ -8,7 +8,8 @@ use Rattle.xf_types.specs.declared.call.Reply.{Reply}
 use Rattle.xf_types.specs.OwnParts.{new_own, own_without, own_of, own_put}
 use Rattle.xf_types.specs.OneState.{dying_if}
 use Rattle.xf_types.specs.TrafficRules.{Fate, Same, Ends, Becomes, Treated}
-use Rattle.xf_held.specs.View.{HeldView}
+use Rattle.xf_types.specs.TickRules.{state_ends, state_later, own_part}
+use Rattle.xf_held.specs.View.{HeldView, held}
 
 -- the states and their own parts, in one order
 pub record TableView : Type 0 where
@@ -51,3 +52,17 @@ own_in_table t s = own_of s.sid t.states t.own (new_own s.spec)
 pub record Puts (reply : Reply) (old new : TableView) (s : Sa) (rule : Treated) : Type 0 where
   pub is_reply : reply ≡ rule.reply
   pub is_put : new ≡ table_put old s rule.fate
+
+-- of what is held, the state beside its own part
+abbrev pub pair_of : HeldView → Sa × Own
+pair_of h = (h.state, h.own)
+
+-- what is held, at a later time
+abbrev pub held_later : ℕ → HeldView → HeldView
+held_later now h = held (state_later now (pair_of h)) h.own
+
+-- the table at a later time: the states that stay
+abbrev pub table_later : ℕ → TableView → TableView
+table_later now t =
+    let stay = without (state_ends now) (zip t.states t.own) in
+    record { states = map (state_later now) stay; own = map own_part stay }

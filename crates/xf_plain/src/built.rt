@@ -4,7 +4,7 @@ ghost use Rattle.xf_plain.specs.Built.{IsBuilt, is_built};
 
 use xf_types::Call;
 
-/// Whether the machine has this call already: one on policies without templates or on states, a flow, or a packet.
+/// Whether the machine has this call already: one on policies without templates or on states, a flow, a packet, or a tick.
 pub fn is_built(call: &Call) -> bool
     ensures test { result ≡ is_built call.now }
     ensures fact { IsTrue result ↔ IsBuilt call.now }
@@ -27,7 +27,8 @@ pub fn is_built(call: &Call) -> bool
         | Call::StateFlush(_)
         | Call::StateCount
         | Call::Flow(_)
-        | Call::Packet(_) => true,
+        | Call::Packet(_)
+        | Call::Tick(_) => true,
         _ => false,
     }
 }

@@ -1,6 +1,7 @@
 //! The plain machine: the databases as plain lists, and each call answered by scanning them.
 #![tactic(auto)]
 
+mod aging;
 mod built;
 mod counting;
 mod indices;

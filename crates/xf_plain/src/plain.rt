@@ -5,6 +5,7 @@ ghost use Rattle.xf_plain.specs.Growth.{GrowsLittle};
 
 mod policies;
 mod states;
+mod time;
 
 use crate::table::StateTable;
 use crate::{indices, listing};
@@ -236,6 +237,7 @@ impl Plain {
             Call::StateCount => self.state_count(),
             Call::Flow(flow) => self.flow(flow),
             Call::Packet(packet) => self.packet(packet),
+            Call::Tick(given) => self.tick(*given),
             _ => unreachable!(),
         }
     }

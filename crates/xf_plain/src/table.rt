@@ -1,16 +1,18 @@
 //! The state list: each state with its own part, in the order of adding.
-ghost use Rattle.std.specs.Prelude.{◌≡◌, ◌<◌, ◌≤◌, ◌&&◌, [], not, All, IfOk, IfSome, OnOk, OnErr, option_copied, Some, count_by, filter, length, slice_get, vec_capacity};
-ghost use Rattle.xf_plain.specs.Table.{Puts, own_in_table, table_of, table_with, table_without, table_changed, state_at};
+ghost use Rattle.std.specs.Prelude.{◌≡◌, ◌<◌, ◌≤◌, ◌&&◌, ◌++◌, [], not, All, IfOk, IfSome, OnOk, OnErr, option_copied, Some, count_by, filter, filter_map, map, zip, length, slice_get, vec_capacity};
+ghost use Rattle.xf_plain.specs.Table.{Puts, own_in_table, table_of, table_with, table_without, table_changed, table_later, held_later, pair_of, state_at};
 ghost use Rattle.xf_types.specs.StateList.{latest_match, last_of, has_id, has_sid, is_larval_of, is_that, state_meets, larval_replaced};
 ghost use Rattle.xf_types.specs.StateRules.{refreshed_record};
 ghost use Rattle.xf_types.specs.PolicyList.{without};
 ghost use Rattle.xf_types.specs.Same.{meets_one, same_proto};
+ghost use Rattle.xf_types.specs.TickRules.{state_ends, state_event};
 ghost use Rattle.xf_types.specs.TrafficRules.{packet_at};
 
+use crate::aging::push_some;
 use std::alloc::{AllocError, Global};
 use std::marker::Model;
 use xf_held::{Held, admits, has_id, is_larval_of, is_that, meets_proto};
-use xf_types::{NoMemory, Packet, Proto, Reply, Sa, SaFilter, SaId, SaSpec};
+use xf_types::{Event, NoMemory, Packet, Proto, Reply, Sa, SaFilter, SaId, SaSpec};
 
 /// The states, the latest last.
 #[derive(Debug, Drop)]
@@ -128,8 +130,9 @@ impl StateTable {
     {
         let mut admitted = Vec::new(*self.held.allocator());
         for held in &self.held {
-            if admits(wanted, held.state()) {
-                admitted.push(*held.state())?;
+            let state = held.state();
+            if admits(wanted, state) {
+                admitted.push(*state)?;
             }
         }
         Ok(admitted)
@@ -196,6 +199,22 @@ impl StateTable {
         }
         did.reply
     }
+
+    /// Puts what is reported of the states at a time behind the events so far.
+    pub(crate) fn report(&self, now: u64, events: &mut Vec<Event>) -> Result<(), NoMemory>
+        ensures { OnOk result
+            (events.new.items ≡ events.old.items ++ filter_map (state_event now) (zip self.now.states self.now.own)) }
+    {
+        report_held(&self.held, now, events)
+    }
+
+    /// The states at a time: those that stay.
+    pub(crate) fn age(&mut self, now: u64)
+        ensures { self.new ≡ table_later now self.old }
+    {
+        remove_ended(&mut self.held, now);
+        age_all(&mut self.held, now);
+    }
 }
 
 /// That one leaves, where there is one.
@@ -221,4 +240,31 @@ fn find_larval_of<'a>(held: &'a [Held], spec: &SaSpec) -> Option<&'a Held>
     ensures { option_copied result ≡ last_of (λ h. is_larval_of spec.now h.state) held.now }
 {
     held.iter().rev().find(|h| is_larval_of(spec, h.state()))
+}
+
+/// Puts what is reported of each at a time behind the events so far.
+fn report_held(held: &[Held], now: u64, events: &mut Vec<Event>) -> Result<(), NoMemory>
+    ensures { OnOk result
+        (events.new.items ≡ events.old.items ++ filter_map (λ h. state_event now (pair_of h)) held.now) }
+{
+    for one in held {
+        push_some(events, one.event(now))?;
+    }
+    Ok(())
+}
+
+/// Those that time ends leave.
+fn remove_ended(held: &mut Vec<Held>, now: u64)
+    ensures { held.new.items ≡ filter (λ h. not (state_ends now (pair_of h))) held.old.items }
+{
+    held.retain(|h| !h.ends(now));
+}
+
+/// Each at the new time.
+fn age_all(held: &mut Vec<Held>, now: u64)
+    ensures { held.new.items ≡ map (held_later now) held.old.items }
+{
+    for one in held.iter_mut() {
+        one.age(now);
+    }
 }

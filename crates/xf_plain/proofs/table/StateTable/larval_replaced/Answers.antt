@@ -1,5 +1,6 @@
 use Rattle.std.proofs.Common.{ap, sym, ◌∙◌}
 use Rattle.std.specs.Prelude.{None, Some, option_copied}
+use Rattle.xf_types.specs.declared.state.Sa.{Sa}
 use Rattle.xf_types.specs.StateList.{is_larval_of, last_of}
 use Rattle.xf_held.specs.View.{HeldView}
 use Rattle.xf_plain.proofs.Founds.{larval-found}
@@ -13,7 +14,7 @@ returns-in-None c =
 
 pub returns-in-Some : goal.returns-in-Some
 returns-in-Some c =
-    ap (λ (h : HeldView). Some h.state) c.found.view_is
+    ap (λ (s : Sa). Some s) c.state.ensures
     ∙ larval-found c.args.spec.now c.self.inside.held.items c.args.self.now (Some c.in-Some.found.now) c.self.view_is
     c.if-spec-eq0.false
     (sym (ap option_copied c.in-Some.is) ∙ c.find_larval_of.ensures

@@ -1,7 +1,6 @@
 use Rattle.std.proofs.Common.{arith, ◌≡◌, ◌-◌, suc, ap, sym, ◌∙◌, subst, drop}
 use Rattle.std.specs.Prelude.{None}
 use Rattle.xf_types.specs.StateList.{has_id, last_of}
-use Rattle.xf_held.specs.View.{HeldView}
 use Rattle.xf_plain.proofs.Founds.{place-found, place-past}
 use Rattle.xf_plain.proofs.table.StateTable.place_of.Goals as goal
 
@@ -12,7 +11,7 @@ returns-then-has_id-clause-state c =
     (omega (arith, c.search-test.true, c.search.invariant.within))
     (subst (λ p. last_of (has_id c.args.id.now) (drop p c.args.self.now.states) ≡ None) (sym place) c.search.invariant.none)
     c.index.ensures
-    (sym (ap (λ (h : HeldView). has_id c.args.id.now h.state) c.behind-self.view_is) ∙ sym c.has_id.ensures ∙ c.if-has_id.true)
+    (ap (has_id c.args.id.now) (sym c.state.ensures) ∙ sym c.has_id.ensures ∙ c.if-has_id.true)
 
 pub search-preserved : goal.search-preserved
 search-preserved c =
@@ -24,5 +23,5 @@ search-preserved c =
           (omega (arith, c.search-test.true, c.search.invariant.within))
           (subst (λ p. last_of (has_id c.args.id.now) (drop p c.args.self.now.states) ≡ None) (sym place) c.search.invariant.none)
           c.index.ensures
-          (sym (ap (λ (h : HeldView). has_id c.args.id.now h.state) c.behind-self.view_is) ∙ sym c.has_id.ensures ∙ c.if-has_id.false);
+          (ap (has_id c.args.id.now) (sym c.state.ensures) ∙ sym c.has_id.ensures ∙ c.if-has_id.false);
     }

@@ -1,6 +1,7 @@
 use Rattle.std.proofs.Common.{ap, sym, ◌∙◌, refl, set}
 use Rattle.std.proofs.lemmas.Bool.{true≢false}
 use Rattle.xf_types.specs.TrafficRules.{packet_at}
+use Rattle.xf_types.specs.declared.state.Sa.{Sa}
 use Rattle.xf_types.specs.StateList.{has_sid}
 use Rattle.xf_held.specs.View.{HeldView}
 use Rattle.xf_plain.specs.Table.{table_of, table_without}
@@ -28,7 +29,7 @@ returns-then-did c =
     (packet_at c.args.packet.now c.args.now) c.receive-did.result c.remove.new.self c.self.view_is c.self.invariant
     (states-within c.self.inside.held.items c.args.self.now c.args.place c.self.view_is c.requires)
     c.index_mut-held.ensures.value c.receive-did.ensures
-    (λ e. c.remove.ensures ∙ ap (λ (h : HeldView). table_without (has_sid h.state.sid) (table_of (set c.self.inside.held.items c.args.place c.receive-did.new.self))) c.held.view_is)
+    (λ e. c.remove.ensures ∙ ap (λ (s : Sa). table_without (has_sid s.sid) (table_of (set c.self.inside.held.items c.args.place c.receive-did.new.self))) c.state.ensures)
     (λ e. absurd (true≢false (sym c.if-did.true ∙ e)))
 
 pub returns-else-did : goal.returns-else-did

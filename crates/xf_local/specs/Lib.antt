@@ -1,0 +1,5 @@
+pub mod View
+pub mod Shown
+pub mod Alone
+pub mod Answering
+pub mod Laws
