@@ -37,6 +37,11 @@ abbrev pub new_held : ℕ → ℕ → SaSpec → HeldView
 new_held sid added spec =
     held (record { sid = sid; added = added; larval = false; dying = false; spec = spec }) (new_own spec)
 
+-- a new larval state, with the same own part
+abbrev pub new_larval : ℕ → ℕ → SaSpec → HeldView
+new_larval sid added spec =
+    held (record { sid = sid; added = added; larval = true; dying = false; spec = spec }) (new_own spec)
+
 -- a state with its own part after its fate; one that ends leaves the list as it was
 abbrev pub fated : HeldView → Fate → HeldView
 fated h Same = h

@@ -4,6 +4,7 @@
 mod aging;
 mod foresight;
 mod held;
+mod larval;
 mod laws;
 mod naming;
 mod output;
@@ -12,5 +13,7 @@ mod traffic;
 
 pub use held::Held;
 pub use laws::windows_agree;
-pub use naming::{admits, has_id, id_of, id_of_packet, is_larval_of, is_that, meets_proto};
+pub use naming::{
+    admits, has_id, has_mark, id_of, id_of_packet, is_larval_of, is_that, meets_proto,
+};
 pub use traffic::Treatment;

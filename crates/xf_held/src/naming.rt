@@ -7,7 +7,8 @@ ghost use Rattle.xf_types.specs.TrafficRules as traffic;
 
 use xf_types::{Addr, Mark, Mode, Packet, Proto, Sa, SaFilter, SaId, SaSpec, same_addr};
 
-fn has_mark(mark: u32, of: &Mark) -> bool
+/// Whether a mark, masked, is the wanted value.
+pub fn has_mark(mark: u32, of: &Mark) -> bool
     ensures { result ≡ has_mark mark of.now }
 {
     (mark & of.mask) == of.value

@@ -13,7 +13,7 @@ use Rattle.xf_types.specs.PolicyList.{without}
 use Rattle.xf_types.specs.StateList.{last_of, latest_match, larval_replaced, has_id, is_larval_of, is_that}
 use Rattle.xf_held.specs.View.{HeldView}
 use Rattle.xf_plain.specs.Table.{TableView, table_of, state_at}
-use Rattle.xf_plain.proofs.Lasts.{last_of-map, last_of-filter, last_of-at, last_of-past}
+use Rattle.xf_held.proofs.Lasts.{last_of-map, last_of-filter, last_of-at, last_of-past}
 
 not-zero : (n : ℕ) → (n ≡ 0 → ⊥) → (n == 0) ≡ false
 not-zero n some = elim (n == 0) as (λ b. (n == 0) ≡ b → b ≡ false) [ true ↦ (λ e. absurd (some (eqb-true n 0 e))) | false ↦ (λ e. refl) ] refl

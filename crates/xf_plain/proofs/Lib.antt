@@ -3,7 +3,6 @@ pub mod Inserting
 pub mod Numbers
 pub mod Flows
 pub mod Growing
-pub mod Lasts
 pub mod Tables
 pub mod Fates
 pub mod Founds
