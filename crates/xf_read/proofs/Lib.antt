@@ -1,2 +1,3 @@
 pub mod HexValues
 pub mod SelectorLaws
+pub mod TemplateLaws

@@ -1,5 +1,5 @@
 -- Reading the words after a head, by tables: the first word from the left that offends decides.
-use Rattle.std.specs.Prelude.{ℕ, ◌+◌, Bool, true, false, ◌==◌, ◌&&◌, ◌||◌, nat_le, if◌then◌else◌, List, [], ◌∷◌, ◌++◌, Option, None, Some, Result, Ok, Err}
+use Rattle.std.specs.Prelude.{ℕ, ◌+◌, ◌-◌, ◌^◌, Bool, true, false, ◌==◌, ◌&&◌, ◌||◌, nat_le, if◌then◌else◌, List, [], ◌∷◌, ◌++◌, Option, None, Some, Result, Ok, Err}
 use Rattle.std.specs.Str.{bytes_eq}
 use Rattle.xf_types.specs.declared.network.Addr.{Addr}
 use Rattle.xf_types.specs.declared.network.Prefix.{Prefix}
@@ -47,7 +47,9 @@ value_of_meaning (meaning.Ptype ptype) = value.Ptype ptype
 value_of_meaning (meaning.Action action) = value.Action action
 value_of_meaning (meaning.Proto proto) = value.Proto proto
 value_of_meaning (meaning.Mode mode) = value.Mode mode
+value_of_meaning (meaning.Level level) = value.Level level
 value_of_meaning (meaning.Bool x) = value.Bool x
+value_of_meaning meaning.Now = value.Now
 
 -- the word of a name
 abbrev pub name_word : Name → Keyword
@@ -93,6 +95,8 @@ value_in (arg.U64 slot low high) w = at_slot slot (number_value value.U64 low hi
 value_in (arg.NameOrU8 slot first second) w =
     at_slot slot (named_or (name_in (names_of first) w)
     (named_or (name_in (names_of second) w) (number_value value.U8 0 255 w)))
+value_in (arg.NameOrU64 slot list) w =
+    at_slot slot (named_or (name_in (names_of list) w) (number_value value.U64 0 (2 ^ 64 - 1) w))
 value_in (arg.Name slot list) w = at_slot slot (named_or (name_in (names_of list) w) (Err reason.Word))
 value_in (arg.Addr slot) w = at_slot slot (some_addr (addr_of w))
 value_in (arg.Prefix slot) w = at_slot slot (named_or (name_in (names_of names.Anys) w) (some_prefix (prefix_of w)))
@@ -109,9 +113,9 @@ pub record Progress : Type 0 where
   pub pending : Args  -- what has to come next
   pub used : List (ℕ × Word)  -- which words each group had that may stand once
 
--- before the first word
-abbrev pub start : Progress
-start = record { fields = []; group = 0; opened = 0; following = table.None; pending = args.None; used = [] }
+-- before the first word: these have to come first
+abbrev pub start : Args → Progress
+start first = record { fields = []; group = 0; opened = 0; following = table.None; pending = first; used = [] }
 
 -- a value is put in its place, and these come next
 abbrev pub put : Progress → Args → Option (Slot × Value) → Progress
@@ -217,6 +221,6 @@ abbrev pub after_words : List Table → Progress → List Word → Result (List 
 after_words tables s [] = ended s.fields s.pending
 after_words tables s (w ∷ ws) = after_word tables s w >>= λ t. after_words tables t ws
 
--- the fields of a line's words
-unfoldable pub fields_of : List Table → List Word → Result (List Field) Reason
-fields_of tables ws = after_words tables start ws
+-- the fields of a line's words, of which these have to come first
+unfoldable pub fields_of : List Table → Args → List Word → Result (List Field) Reason
+fields_of tables first ws = after_words tables (start first) ws

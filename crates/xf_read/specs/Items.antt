@@ -5,22 +5,21 @@ use Rattle.xf_read.specs.declared.fault.ReadFault.{ReadFault}
 use Rattle.xf_read.specs.declared.fault.ReadFault.TheVariants.{Bad, NoMemory}
 use Rattle.xf_read.specs.declared.head.HeadTable.TheVariants.{Start}
 use Rattle.xf_read.specs.declared.reader.Item.{Item}
-use Rattle.xf_read.specs.declared.reader.Item.TheVariants.{Nothing, One}
-use Rattle.xf_read.specs.Calls.{call_of}
+use Rattle.xf_read.specs.declared.reader.Item.TheVariants.{Nothing}
+use Rattle.xf_read.specs.Calls.{asked_of}
 use Rattle.xf_read.specs.Grammar.{◌>>=◌, fields_of}
 use Rattle.xf_read.specs.Heads.{head_of}
 use Rattle.xf_lex.specs.Lexing.{Word}
 use Rattle.xf_lex.specs.Lines.{words_of}
-use Rattle.xf_read.specs.Tables.{tables_of}
+use Rattle.xf_read.specs.Tables.{tables_of, first_of}
 
 -- a line without words is nothing; else its head says which words may follow, and what they ask for
 unfoldable pub words_item : List Word → Result Item Reason
 words_item [] = Ok Nothing
 words_item (w ∷ ws) = do
   found ← head_of Start (w ∷ ws)
-  fields ← fields_of (tables_of found.0) found.1
-  asked ← call_of found.0 fields
-  Ok (One asked)
+  fields ← fields_of (tables_of found.0) (first_of found.0) found.1
+  asked_of found.0 fields
 
 -- a logical line's own faults come before those of its words
 unfoldable pub line_item : List ℕ → Result Item Reason

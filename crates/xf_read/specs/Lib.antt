@@ -8,8 +8,13 @@ pub mod Lookups
 pub mod Selectors
 pub mod Thresholds
 pub mod Marks
+pub mod Limits
+pub mod Templates
 pub mod Identity
 pub mod States
+pub mod Allocs
+pub mod Flows
 pub mod Packets
+pub mod Ticks
 pub mod Calls
 pub mod Items

@@ -7,6 +7,7 @@ use Rattle.xf_types.specs.declared.network.Prefix.{Prefix}
 use Rattle.xf_types.specs.declared.network.Proto.{Proto}
 use Rattle.xf_types.specs.declared.network.Ptype.{Ptype}
 use Rattle.xf_types.specs.declared.policy.Action.{Action}
+use Rattle.xf_types.specs.declared.policy.Level.{Level}
 use Rattle.xf_types.specs.declared.policy.Mode.{Mode}
 use Rattle.xf_types.specs.declared.status.Reason.{Reason}
 use Rattle.xf_types.specs.declared.status.Reason.TheVariants.{Missing}
@@ -57,6 +58,11 @@ slot_number slot.Sel = 35
 slot_number slot.IcvBits = 36
 slot_number slot.Len = 37
 slot_number slot.Icv = 38
+slot_number slot.Tmpl = 39
+slot_number slot.Level = 40
+slot_number slot.Min = 41
+slot_number slot.Max = 42
+slot_number slot.Time = 43
 
 -- the group of the line's own words
 abbrev pub own : ℕ
@@ -142,6 +148,11 @@ abbrev pub as_mode : Option Value → Option Mode
 as_mode (Some (value.Mode x)) = Some x
 as_mode _ = None
 
+-- a level
+abbrev pub as_level : Option Value → Option Level
+as_level (Some (value.Level x)) = Some x
+as_level _ = None
+
 -- a choice between two words
 abbrev pub as_bool : Option Value → Option Bool
 as_bool (Some (value.Bool x)) = Some x
@@ -155,6 +166,26 @@ u8_in_group group slot fs = as_u8 (value_in_group group slot fs)
 abbrev pub u16_in_group : ℕ → Slot → List Field → Option ℕ
 u16_in_group group slot fs = as_u16 (value_in_group group slot fs)
 
+-- the number of 32 bits at a slot of a group
+abbrev pub u32_in_group : ℕ → Slot → List Field → Option ℕ
+u32_in_group group slot fs = as_u32 (value_in_group group slot fs)
+
+-- the address at a slot of a group
+abbrev pub addr_in_group : ℕ → Slot → List Field → Option Addr
+addr_in_group group slot fs = as_addr (value_in_group group slot fs)
+
+-- the IPsec protocol of a group
+abbrev pub ipsec_in_group : ℕ → List Field → Option Proto
+ipsec_in_group group fs = as_ipsec (value_in_group group slot.Proto fs)
+
+-- the mode of a group
+abbrev pub mode_in_group : ℕ → List Field → Option Mode
+mode_in_group group fs = as_mode (value_in_group group slot.Mode fs)
+
+-- the level of a group
+abbrev pub level_in_group : ℕ → List Field → Option Level
+level_in_group group fs = as_level (value_in_group group slot.Level fs)
+
 -- the prefix at a slot of a group, if it has a family of its own
 abbrev pub prefix_in_group : ℕ → Slot → List Field → Option Prefix
 prefix_in_group group slot fs = as_prefix (value_in_group group slot fs)
@@ -165,7 +196,7 @@ u8_at slot fs = u8_in_group own slot fs
 
 -- the number of 32 bits at a slot
 abbrev pub u32_at : Slot → List Field → Option ℕ
-u32_at slot fs = as_u32 (value_at slot fs)
+u32_at slot fs = u32_in_group own slot fs
 
 -- the number of 64 bits at a slot
 abbrev pub u64_at : Slot → List Field → Option ℕ
@@ -173,7 +204,7 @@ u64_at slot fs = as_u64 (value_at slot fs)
 
 -- the address at a slot
 abbrev pub addr_at : Slot → List Field → Option Addr
-addr_at slot fs = as_addr (value_at slot fs)
+addr_at slot fs = addr_in_group own slot fs
 
 -- the prefix at a slot, if it has a family of its own
 abbrev pub prefix_at_slot : Slot → List Field → Option Prefix
@@ -193,11 +224,11 @@ action_in fs = as_action (value_at slot.Action fs)
 
 -- the line's IPsec protocol
 abbrev pub ipsec_in : List Field → Option Proto
-ipsec_in fs = as_ipsec (value_at slot.Proto fs)
+ipsec_in fs = ipsec_in_group own fs
 
 -- the line's mode
 abbrev pub mode_in : List Field → Option Mode
-mode_in fs = as_mode (value_at slot.Mode fs)
+mode_in fs = mode_in_group own fs
 
 -- whether the line's integrity check value is right
 abbrev pub icv_in : List Field → Option Bool

@@ -2,6 +2,8 @@
 use Rattle.std.specs.Prelude.{List, []}
 use Rattle.xf_read.specs.declared.head.Head.{Head}
 use Rattle.xf_read.specs.declared.head.Head.TheVariants as head
+use Rattle.xf_read.specs.declared.row.Args.{Args}
+use Rattle.xf_read.specs.declared.row.Args.TheVariants as args
 use Rattle.xf_read.specs.declared.row.Name.{Name}
 use Rattle.xf_read.specs.declared.row.Names.{Names}
 use Rattle.xf_read.specs.declared.row.Names.TheVariants as names
@@ -24,6 +26,8 @@ names_of names.StateProtocols = state.STATE_PROTOCOLS
 names_of names.PacketProtocols = state.PACKET_PROTOCOLS
 names_of names.Modes = state.MODES
 names_of names.Icvs = state.ICVS
+names_of names.Levels = constant.LEVELS
+names_of names.Times = constant.TIMES
 
 -- the rows of a table
 abbrev pub rows_of : Table → List Row
@@ -38,16 +42,18 @@ rows_of table.Flow = constant.FLOW
 rows_of table.Mask = constant.MASK
 rows_of table.PolicyFlags = constant.POLICY_FLAGS
 rows_of table.Limits = constant.LIMITS
+rows_of table.Template = constant.TEMPLATE
 rows_of table.Refused = constant.REFUSED
-rows_of table.Unbuilt = constant.UNBUILT
 rows_of table.StateSpec = state.STATE_SPEC
 rows_of table.StateId = state.STATE_ID
 rows_of table.StateFilter = state.STATE_FILTER
 rows_of table.StateKind = state.STATE_KIND
 rows_of table.StateFlags = state.STATE_FLAGS
-rows_of table.StateUnbuilt = state.STATE_UNBUILT
 rows_of table.StateRefused = state.STATE_REFUSED
+rows_of table.Alloc = state.ALLOC
+rows_of table.AllocRefused = state.ALLOC_REFUSED
 rows_of table.Packet = state.PACKET
+rows_of table.Length = constant.LENGTH
 
 -- the tables of a line's own words
 abbrev pub tables_of : Head → List Table
@@ -68,5 +74,13 @@ tables_of head.StateDeleteAll = state.STATE_FILTER_TABLES
 tables_of head.StateList = state.STATE_FILTER_TABLES
 tables_of head.StateFlush = state.STATE_FLUSH_TABLES
 tables_of head.StateCount = []
+tables_of head.AllocSpi = state.ALLOC_TABLES
 tables_of (head.Flow dir) = constant.FLOW_TABLES
+tables_of head.Send = constant.SEND_TABLES
 tables_of head.Packet = state.PACKET_TABLES
+tables_of head.Tick = []
+
+-- what has to come directly after a head
+abbrev pub first_of : Head → Args
+first_of head.Tick = constant.TICK
+first_of _ = args.None

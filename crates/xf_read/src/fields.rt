@@ -83,10 +83,11 @@ fn is_used(used: &[Used], group: u32, word: &[u8]) -> bool
 
 impl Progress {
     ghost use Rattle.std.specs.Prelude.{Ok, IfSome};
+    ghost use Rattle.xf_read.specs.declared.row.Args.TheVariants as args;
     ghost use Rattle.xf_read.specs.Grammar.{start, put, take_value, entered, kept, enter, enter_found};
 
     pub fn new(alloc: Global) -> Progress
-        ensures { seen result ≡ start }
+        ensures { seen result ≡ start args.None }
     {
         Progress {
             fields: Vec::new(alloc),
@@ -98,14 +99,15 @@ impl Progress {
         }
     }
 
-    fn reset(&mut self)
-        ensures { seen self.new ≡ start }
+    // Before the first word of a line, where these come first.
+    fn reset(&mut self, first: Args)
+        ensures { seen self.new ≡ start first }
     {
         self.fields.clear();
         self.group = 0;
         self.opened = 0;
         self.following = Table::None;
-        self.pending = Args::None;
+        self.pending = first;
         self.used.clear();
     }
 
@@ -243,12 +245,17 @@ impl Progress {
         }
     }
 
-    /// Reads the fields of a line's words, by the tables of its head.
+    /// Reads the fields of a line's words, by the tables of its head and by what has to come first.
     #[tactic(auto, unfolding(crate::specs::Grammar::fields_of))]
-    pub fn read_fields(&mut self, tables: &[Table], words: &[Vec<u8>]) -> Result<(), LineFault>
-        ensures { Gives (λ _. self.new.fields.items) result (fields_of tables.now (shown words.now)) }
+    pub fn read_fields(
+        &mut self,
+        tables: &[Table],
+        first: Args,
+        words: &[Vec<u8>],
+    ) -> Result<(), LineFault>
+        ensures { Gives (λ _. self.new.fields.items) result (fields_of tables.now first (shown words.now)) }
     {
-        self.reset();
+        self.reset(first);
         'words: for word in words {
             self.after_word(tables, word)?;
         }

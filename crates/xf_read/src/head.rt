@@ -27,8 +27,11 @@ pub(crate) enum Head {
     StateList,
     StateFlush,
     StateCount,
+    AllocSpi,
     Flow(Dir),
+    Send,
     Packet,
+    Tick,
 }
 
 /// A word of a head: it leads to a table of further words, or ends the head.
@@ -52,9 +55,9 @@ pub(crate) enum HeadTable {
 pub(crate) static START: [HeadRow; 7] = [
     HeadRow::Leads(Keyword::Xfrm, HeadTable::Xfrm),
     HeadRow::Leads(Keyword::Flow, HeadTable::Flow),
-    HeadRow::Unsupported(Keyword::Send),
+    HeadRow::Ends(Keyword::Send, Head::Send),
     HeadRow::Ends(Keyword::Packet, Head::Packet),
-    HeadRow::Unsupported(Keyword::Tick),
+    HeadRow::Ends(Keyword::Tick, Head::Tick),
     HeadRow::Unsupported(Keyword::Worker),
     HeadRow::Unsupported(Keyword::Sync),
 ];
@@ -95,7 +98,7 @@ pub(crate) static STATE: [HeadRow; 12] = [
     HeadRow::Ends(Keyword::Ls, Head::StateList),
     HeadRow::Ends(Keyword::Flush, Head::StateFlush),
     HeadRow::Ends(Keyword::Count, Head::StateCount),
-    HeadRow::Unsupported(Keyword::AllocSpi),
+    HeadRow::Ends(Keyword::AllocSpi, Head::AllocSpi),
 ];
 
 pub(crate) static FLOW: [HeadRow; 3] = [

@@ -123,6 +123,12 @@ pub(crate) enum Keyword {
     Icv,
     IcvOk,
     IcvBad,
+    Level,
+    Required,
+    Use,
+    Min,
+    Max,
+    Now,
 }
 
 impl Keyword {
@@ -249,6 +255,12 @@ impl Keyword {
             Keyword::Icv => b"icv",
             Keyword::IcvOk => b"ok",
             Keyword::IcvBad => b"bad",
+            Keyword::Level => b"level",
+            Keyword::Required => b"required",
+            Keyword::Use => b"use",
+            Keyword::Min => b"min",
+            Keyword::Max => b"max",
+            Keyword::Now => b"now",
         }
     }
 }

@@ -1,12 +1,15 @@
 //! Lines of a batch to what they ask, by tables of heads and words.
 #![tactic(auto)]
 
+mod alloc_spi;
 mod call;
 mod fault;
 mod fields;
+mod flow;
 mod head;
 mod identity;
 mod keyword;
+mod limits;
 mod lookup;
 mod mark;
 mod number;
@@ -18,7 +21,9 @@ mod selector;
 mod state;
 mod state_tables;
 mod tables;
+mod template;
 mod thresholds;
+mod tick;
 mod values;
 
 pub use fault::ReadFault;

@@ -3,7 +3,7 @@ ghost use Rattle.std.specs.Prelude.{◌≡◌, ◌<◌};
 ghost use Rattle.xf_read.specs.Lookups as found;
 
 use crate::row::{Field, Slot, Value};
-use xf_types::{Action, Addr, Dir, Mode, Prefix, Proto, Ptype};
+use xf_types::{Action, Addr, Dir, Level, Mode, Prefix, Proto, Ptype};
 
 impl Slot {
     ghost use Rattle.xf_read.specs.Lookups.{slot_number};
@@ -52,6 +52,11 @@ impl Slot {
             Slot::IcvBits => 36,
             Slot::Len => 37,
             Slot::Icv => 38,
+            Slot::Tmpl => 39,
+            Slot::Level => 40,
+            Slot::Min => 41,
+            Slot::Max => 42,
+            Slot::Time => 43,
         }
     }
 }
@@ -120,6 +125,51 @@ pub(crate) fn u16_in_group(fields: &[Field], group: u32, slot: Slot) -> Option<u
     }
 }
 
+pub(crate) fn u32_in_group(fields: &[Field], group: u32, slot: Slot) -> Option<u32>
+    ensures { result ≡ found.u32_in_group group slot fields.now }
+{
+    match value_in_group(fields, group, slot) {
+        Some(Value::U32(x)) => Some(x),
+        _ => None,
+    }
+}
+
+pub(crate) fn addr_in_group(fields: &[Field], group: u32, slot: Slot) -> Option<Addr>
+    ensures { result ≡ found.addr_in_group group slot fields.now }
+{
+    match value_in_group(fields, group, slot) {
+        Some(Value::Addr(x)) => Some(x),
+        _ => None,
+    }
+}
+
+pub(crate) fn ipsec_in_group(fields: &[Field], group: u32) -> Option<Proto>
+    ensures { result ≡ found.ipsec_in_group group fields.now }
+{
+    match value_in_group(fields, group, Slot::Proto) {
+        Some(Value::Proto(x)) => Some(x),
+        _ => None,
+    }
+}
+
+pub(crate) fn mode_in_group(fields: &[Field], group: u32) -> Option<Mode>
+    ensures { result ≡ found.mode_in_group group fields.now }
+{
+    match value_in_group(fields, group, Slot::Mode) {
+        Some(Value::Mode(x)) => Some(x),
+        _ => None,
+    }
+}
+
+pub(crate) fn level_in_group(fields: &[Field], group: u32) -> Option<Level>
+    ensures { result ≡ found.level_in_group group fields.now }
+{
+    match value_in_group(fields, group, Slot::Level) {
+        Some(Value::Level(x)) => Some(x),
+        _ => None,
+    }
+}
+
 pub(crate) fn prefix_in_group(fields: &[Field], group: u32, slot: Slot) -> Option<Prefix>
     ensures { result ≡ found.prefix_in_group group slot fields.now }
 {
@@ -138,10 +188,7 @@ pub(crate) fn u8_at(fields: &[Field], slot: Slot) -> Option<u8>
 pub(crate) fn u32_at(fields: &[Field], slot: Slot) -> Option<u32>
     ensures { result ≡ found.u32_at slot fields.now }
 {
-    match value_at(fields, slot) {
-        Some(Value::U32(x)) => Some(x),
-        _ => None,
-    }
+    u32_in_group(fields, OWN, slot)
 }
 
 pub(crate) fn u64_at(fields: &[Field], slot: Slot) -> Option<u64>
@@ -156,10 +203,7 @@ pub(crate) fn u64_at(fields: &[Field], slot: Slot) -> Option<u64>
 pub(crate) fn addr_at(fields: &[Field], slot: Slot) -> Option<Addr>
     ensures { result ≡ found.addr_at slot fields.now }
 {
-    match value_at(fields, slot) {
-        Some(Value::Addr(x)) => Some(x),
-        _ => None,
-    }
+    addr_in_group(fields, OWN, slot)
 }
 
 pub(crate) fn prefix_at(fields: &[Field], slot: Slot) -> Option<Prefix>
@@ -198,19 +242,13 @@ pub(crate) fn action_in(fields: &[Field]) -> Option<Action>
 pub(crate) fn ipsec_in(fields: &[Field]) -> Option<Proto>
     ensures { result ≡ found.ipsec_in fields.now }
 {
-    match value_at(fields, Slot::Proto) {
-        Some(Value::Proto(x)) => Some(x),
-        _ => None,
-    }
+    ipsec_in_group(fields, OWN)
 }
 
 pub(crate) fn mode_in(fields: &[Field]) -> Option<Mode>
     ensures { result ≡ found.mode_in fields.now }
 {
-    match value_at(fields, Slot::Mode) {
-        Some(Value::Mode(x)) => Some(x),
-        _ => None,
-    }
+    mode_in_group(fields, OWN)
 }
 
 pub(crate) fn icv_in(fields: &[Field]) -> Option<bool>

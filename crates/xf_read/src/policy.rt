@@ -1,17 +1,18 @@
 //! From fields to policies: what is added, what is named, and what is filtered.
-ghost use Rattle.std.specs.Prelude.{◌≡◌, []};
+ghost use Rattle.std.specs.Prelude.{◌≡◌};
 ghost use Rattle.xf_read.specs.Calls as rule;
 
-use crate::lookup::{
-    OWN, action_in, dir_in, has_any, prefix_at, ptype_in, u8_at, u32_at, u64_at, value_at,
-};
+use crate::limits::limits_of;
+use crate::lookup::{OWN, action_in, dir_in, has_any, prefix_at, ptype_in, u8_at, u32_at, value_at};
 use crate::mark::mark_of;
 use crate::row::{Field, Slot};
 use crate::selector::{
-    dest_port, given_end, judge_families, judge_ports, read_selector, source_port,
+    dest_port, given_end, judge_families, judge_ports, read_selector, selector_with, source_port,
+    src_of,
 };
+use crate::template::{judge_templates, read_templates};
 use xf_types::{
-    Action, Dir, Limits, PolicyFilter, PolicyKey, PolicySpec, Ptype, Reason, Templates,
+    Action, Dir, PolicyFilter, PolicyKey, PolicySpec, Ptype, Reason, Selector, Templates,
 };
 
 // What may not stand beside an index: it makes two policies the same.
@@ -28,30 +29,11 @@ pub(crate) static SAME_SLOTS: [Slot; 10] = [
     Slot::IfId,
 ];
 
-#[tactic(auto, unfolding(crate::specs::Calls::limits_of))]
-fn limits_of(fields: &[Field]) -> Limits
-    ensures { result ≡ rule.limits_of fields.now }
+/// A policy of this selector and these templates.
+fn spec_with(dir: Dir, sel: Selector, templates: Templates, fields: &[Field]) -> PolicySpec
+    ensures { result ≡ rule.spec_with dir sel templates fields.now }
 {
-    Limits {
-        time_soft: u64_at(fields, Slot::TimeSoft).unwrap_or(0),
-        time_hard: u64_at(fields, Slot::TimeHard).unwrap_or(0),
-        use_soft: u64_at(fields, Slot::UseSoft).unwrap_or(0),
-        use_hard: u64_at(fields, Slot::UseHard).unwrap_or(0),
-        byte_soft: u64_at(fields, Slot::ByteSoft),
-        byte_hard: u64_at(fields, Slot::ByteHard),
-        packet_soft: u64_at(fields, Slot::PacketSoft),
-        packet_hard: u64_at(fields, Slot::PacketHard),
-    }
-}
-
-/// The policy that a line asks for.
-#[tactic(auto, unfolding(crate::specs::Calls::spec_of))]
-pub(crate) fn read_spec(fields: &[Field]) -> Result<PolicySpec, Reason>
-    ensures { result ≡ rule.spec_of fields.now }
-{
-    let dir = dir_in(fields).ok_or(Reason::Missing)?;
-    let sel = read_selector(fields, OWN)?;
-    Ok(PolicySpec {
+    PolicySpec {
         dir,
         ptype: ptype_in(fields).unwrap_or(Ptype::Main),
         sel,
@@ -61,8 +43,22 @@ pub(crate) fn read_spec(fields: &[Field]) -> Result<PolicySpec, Reason>
         action: action_in(fields).unwrap_or(Action::Allow),
         index: u32_at(fields, Slot::Index).unwrap_or(0),
         limits: limits_of(fields),
-        templates: Templates::none(),
-    })
+        templates,
+    }
+}
+
+/// The policy that a line asks for.
+#[tactic(auto, unfolding(crate::specs::Calls::spec_of))]
+pub(crate) fn read_spec(fields: &[Field]) -> Result<PolicySpec, Reason>
+    ensures { result ≡ rule.spec_of fields.now }
+{
+    let dir = dir_in(fields).ok_or(Reason::Missing)?;
+    let templates = read_templates(fields, &src_of(fields, OWN).addr)?;
+    let sport = source_port(fields, OWN)?;
+    let dport = dest_port(fields, OWN)?;
+    judge_templates(templates.as_slice())?;
+    let sel = selector_with(fields, OWN, sport, dport)?;
+    Ok(spec_with(dir, sel, templates, fields))
 }
 
 fn index_key(dir: Dir, index: u32, fields: &[Field]) -> Result<PolicyKey, Reason>

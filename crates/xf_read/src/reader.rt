@@ -4,11 +4,11 @@ ghost use Rattle.xf_lex.specs.Gives.{Gives};
 ghost use Rattle.xf_lex.specs.Shown.{shown};
 ghost use Rattle.xf_read.specs.Items.{words_item, line_item};
 
-use crate::call::read_call;
+use crate::call::read_asked;
 use crate::fault::ReadFault;
 use crate::fields::Progress;
 use crate::head::{HeadTable, read_head};
-use crate::tables::tables_in;
+use crate::tables::{first_in, tables_in};
 use std::alloc::Global;
 use xf_lex::{LineFault, Scan};
 use xf_types::{Call, Flow, NoMemory};
@@ -59,8 +59,9 @@ impl Reader {
             return Ok(Item::Nothing);
         }
         let (head, rest) = read_head(HeadTable::Start, words)?;
-        self.progress.read_fields(tables_in(head), rest)?;
-        Ok(Item::One(read_call(head, &self.progress.fields)?))
+        self.progress
+            .read_fields(tables_in(head), first_in(head), rest)?;
+        Ok(read_asked(head, &self.progress.fields)?)
     }
 
     #[tactic(auto, unfolding(crate::specs::Items::line_item))]

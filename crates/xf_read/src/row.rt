@@ -1,7 +1,7 @@
 //! What tables of words are made of.
 
 use crate::keyword::Keyword;
-use xf_types::{Action, Addr, Dir, Mode, Prefix, Proto, Ptype, Reason};
+use xf_types::{Action, Addr, Dir, Level, Mode, Prefix, Proto, Ptype, Reason};
 
 /// Where a value goes.
 #[derive(Clone, Copy, Debug)]
@@ -45,9 +45,14 @@ pub(crate) enum Slot {
     IcvBits,
     Len,
     Icv,
+    Tmpl,
+    Level,
+    Min,
+    Max,
+    Time,
 }
 
-/// A value that was read. `Any` is a prefix of length 0 that has no family of its own.
+/// A value that was read. `Any` is a prefix of length 0 that has no family of its own, and `Now` the time of the clock.
 #[derive(Clone, Copy, Debug)]
 pub(crate) enum Value {
     U8(u8),
@@ -62,7 +67,9 @@ pub(crate) enum Value {
     Action(Action),
     Proto(Proto),
     Mode(Mode),
+    Level(Level),
     Bool(bool),
+    Now,
 }
 
 /// What a name means.
@@ -75,7 +82,9 @@ pub(crate) enum Meaning {
     Action(Action),
     Proto(Proto),
     Mode(Mode),
+    Level(Level),
     Bool(bool),
+    Now,
 }
 
 /// One of the names that a value may have.
@@ -99,6 +108,8 @@ pub(crate) enum Names {
     PacketProtocols,
     Modes,
     Icvs,
+    Levels,
+    Times,
 }
 
 /// A value that follows a word: where it goes, and what it may be. A number has its least and its greatest value.
@@ -110,6 +121,8 @@ pub(crate) enum Arg {
     U64(Slot, u64, u64),
     /// A name of either list, or else a number of 8 bits.
     NameOrU8(Slot, Names, Names),
+    /// A name, or else any number of 64 bits.
+    NameOrU64(Slot, Names),
     Name(Slot, Names),
     Addr(Slot),
     Prefix(Slot),
@@ -157,16 +170,18 @@ pub(crate) enum Table {
     Mask,
     PolicyFlags,
     Limits,
-    Unbuilt,
+    Template,
     Refused,
     StateSpec,
     StateId,
     StateFilter,
     StateKind,
     StateFlags,
-    StateUnbuilt,
     StateRefused,
+    Alloc,
+    AllocRefused,
     Packet,
+    Length,
 }
 
 /// A value that was read, its place, and the group of words to which it belongs: 0 is the line's own.

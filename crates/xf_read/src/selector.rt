@@ -83,7 +83,8 @@ pub(crate) fn judge_ports(fields: &[Field], group: u32) -> Result<(), Reason>
     }
 }
 
-fn zero_of(addr: &Addr) -> Addr
+/// The zero address of the same family.
+pub(crate) fn zero_of(addr: &Addr) -> Addr
     ensures { result ≡ rule.zero_of addr.now }
 {
     match addr {
@@ -169,7 +170,8 @@ fn selector_between(
     }
 }
 
-fn src_of(fields: &[Field], group: u32) -> Prefix
+/// The source prefix of a group.
+pub(crate) fn src_of(fields: &[Field], group: u32) -> Prefix
     ensures { result ≡ rule.src_of group fields.now }
 {
     end_or(

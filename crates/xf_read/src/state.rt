@@ -4,11 +4,12 @@ ghost use Rattle.xf_types.specs.Facts.{IsSaSpec};
 ghost use Rattle.xf_read.specs.States as rule;
 
 use crate::identity::{Identity, read_identity};
+use crate::limits::limits_of;
 use crate::lookup::{addr_at, has, has_in_group, ipsec_in, mode_in, u32_at, u64_at};
 use crate::mark::{mark_of, sought_mark};
 use crate::row::{Field, Slot};
 use crate::selector::{dest_port, judge_ends, judge_family, selector_with, source_port};
-use xf_types::{Limits, Mode, Reason, SaFilter, SaId, SaSpec, Selector};
+use xf_types::{Mode, Reason, SaFilter, SaId, SaSpec, Selector};
 
 // The group of the words behind `sel`, which stands once in a line.
 const BEHIND_SEL: u32 = 1;
@@ -72,7 +73,7 @@ fn sa_with(identity: Identity, sel: Option<Selector>, fields: &[Field]) -> SaSpe
         out_seq: number_or_zero(u64_at(fields, Slot::ReplayOseq)),
         wildrecv: has(fields, Slot::Wildrecv),
         esn: false,
-        limits: Limits::none(),
+        limits: limits_of(fields),
     }
 }
 

@@ -36,7 +36,7 @@ pub(crate) static ICVS: [Name; 2] = [
 ];
 
 // What a state has. Algorithms and their keys are read and forgotten; behind `sel` stand the words of its selector.
-pub(crate) static STATE_SPEC: [Row; 19] = [
+pub(crate) static STATE_SPEC: [Row; 20] = [
     Row::Once(Keyword::Src, Args::One(Arg::Addr(Slot::Src)), Table::None),
     Row::Once(Keyword::Dst, Args::One(Arg::Addr(Slot::Dst)), Table::None),
     Row::Once(
@@ -90,6 +90,7 @@ pub(crate) static STATE_SPEC: [Row; 19] = [
         Table::None,
     ),
     Row::Often(Keyword::Flag, Args::Word(Table::StateFlags), Table::None),
+    Row::Often(Keyword::Limit, Args::Word(Table::Limits), Table::None),
     Row::Opens(
         Keyword::Sel,
         Slot::Sel,
@@ -195,11 +196,52 @@ pub(crate) static STATE_FLAGS: [Row; 8] = [
     Row::Unsupported(Keyword::Esn),
 ];
 
-// What is not built yet of a state.
-pub(crate) static STATE_UNBUILT: [Row; 1] = [Row::Unsupported(Keyword::Limit)];
-
 // What ip-xfrm(8) has of a state and this profile refuses, beside what it refuses of policies too.
 pub(crate) static STATE_REFUSED: [Row; 1] = [Row::Unsupported(Keyword::Dir)];
+
+// What a request for a fresh SPI has: that lies between `min` and `max`.
+pub(crate) static ALLOC: [Row; 9] = [
+    Row::Once(Keyword::Src, Args::One(Arg::Addr(Slot::Src)), Table::None),
+    Row::Once(Keyword::Dst, Args::One(Arg::Addr(Slot::Dst)), Table::None),
+    Row::Once(
+        Keyword::Proto,
+        Args::One(Arg::Name(Slot::Proto, Names::StateProtocols)),
+        Table::None,
+    ),
+    Row::Once(
+        Keyword::Mode,
+        Args::One(Arg::Name(Slot::Mode, Names::Modes)),
+        Table::None,
+    ),
+    Row::Once(
+        Keyword::Mark,
+        Args::One(Arg::U32(Slot::Mark, 0, U32)),
+        Table::Mask,
+    ),
+    Row::Once(
+        Keyword::Reqid,
+        Args::One(Arg::U32(Slot::Reqid, 0, U32)),
+        Table::None,
+    ),
+    Row::Once(
+        Keyword::Seq,
+        Args::One(Arg::U32(Slot::Seq, 0, U32)),
+        Table::None,
+    ),
+    Row::Once(
+        Keyword::Min,
+        Args::One(Arg::U32(Slot::Min, 1, U32)),
+        Table::None,
+    ),
+    Row::Once(
+        Keyword::Max,
+        Args::One(Arg::U32(Slot::Max, 1, U32)),
+        Table::None,
+    ),
+];
+
+// The SPI itself isn't asked for: it is what is found.
+pub(crate) static ALLOC_REFUSED: [Row; 1] = [Row::Unsupported(Keyword::Spi)];
 
 // What a packet that came in has.
 pub(crate) static PACKET: [Row; 8] = [
@@ -237,9 +279,8 @@ pub(crate) static PACKET: [Row; 8] = [
     ),
 ];
 
-pub(crate) static STATE_SPEC_TABLES: [Table; 4] = [
+pub(crate) static STATE_SPEC_TABLES: [Table; 3] = [
     Table::StateSpec,
-    Table::StateUnbuilt,
     Table::StateRefused,
     Table::Refused,
 ];
@@ -258,6 +299,13 @@ pub(crate) static STATE_FILTER_TABLES: [Table; 3] = [
 
 pub(crate) static STATE_FLUSH_TABLES: [Table; 3] = [
     Table::StateKind,
+    Table::StateRefused,
+    Table::Refused,
+];
+
+pub(crate) static ALLOC_TABLES: [Table; 4] = [
+    Table::Alloc,
+    Table::AllocRefused,
     Table::StateRefused,
     Table::Refused,
 ];

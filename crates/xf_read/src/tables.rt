@@ -1,16 +1,16 @@
 //! The words that each kind of line may have.
 ghost use Rattle.std.specs.Prelude.{◌≡◌};
-ghost use Rattle.xf_read.specs.Tables.{names_of, rows_of, tables_of};
+ghost use Rattle.xf_read.specs.Tables.{names_of, rows_of, tables_of, first_of};
 
 use crate::head::Head;
 use crate::keyword::Keyword;
 use crate::row::{Arg, Args, Meaning, Name, Names, Row, Slot, Table};
 use crate::state_tables::{
-    ICVS, MODES, PACKET, PACKET_PROTOCOLS, PACKET_TABLES, STATE_FILTER, STATE_FILTER_TABLES,
-    STATE_FLAGS, STATE_FLUSH_TABLES, STATE_ID, STATE_ID_TABLES, STATE_KIND, STATE_PROTOCOLS,
-    STATE_REFUSED, STATE_SPEC, STATE_SPEC_TABLES, STATE_UNBUILT,
+    ALLOC, ALLOC_REFUSED, ALLOC_TABLES, ICVS, MODES, PACKET, PACKET_PROTOCOLS, PACKET_TABLES,
+    STATE_FILTER, STATE_FILTER_TABLES, STATE_FLAGS, STATE_FLUSH_TABLES, STATE_ID, STATE_ID_TABLES,
+    STATE_KIND, STATE_PROTOCOLS, STATE_REFUSED, STATE_SPEC, STATE_SPEC_TABLES,
 };
-use xf_types::{Action, Dir, Ptype};
+use xf_types::{Action, Dir, Level, Ptype, Reason};
 
 const U32: u32 = u32::MAX;
 
@@ -57,6 +57,15 @@ pub(crate) static ANYS: [Name; 3] = [
     Name::Means(Keyword::Default, Meaning::Any),
 ];
 
+// Whether a template without a state is skipped.
+pub(crate) static LEVELS: [Name; 2] = [
+    Name::Means(Keyword::Required, Meaning::Level(Level::Required)),
+    Name::Means(Keyword::Use, Meaning::Level(Level::Use)),
+];
+
+// The time that the clock tells.
+pub(crate) static TIMES: [Name; 1] = [Name::Means(Keyword::Now, Meaning::Now)];
+
 // ICMP types and codes stand in the places of ports. One word follows another, so that those behind `sel` stay its own.
 pub(crate) static SELECTOR: [Row; 7] = [
     Row::Once(
@@ -96,8 +105,8 @@ pub(crate) static SELECTOR: [Row; 7] = [
     ),
 ];
 
-// What a policy has beside its selector.
-pub(crate) static POLICY_SPEC: [Row; 9] = [
+// What a policy has beside its selector. Behind each `tmpl` stand the words of one template.
+pub(crate) static POLICY_SPEC: [Row; 10] = [
     Row::Once(
         Keyword::Dir,
         Args::One(Arg::Name(Slot::Dir, Names::Dirs)),
@@ -135,10 +144,53 @@ pub(crate) static POLICY_SPEC: [Row; 9] = [
     ),
     Row::Often(Keyword::Flag, Args::Word(Table::PolicyFlags), Table::None),
     Row::Often(Keyword::Limit, Args::Word(Table::Limits), Table::None),
+    Row::Opens(
+        Keyword::Tmpl,
+        Slot::Tmpl,
+        Table::Template,
+        6,
+        Reason::Templates,
+    ),
 ];
 
-// What is not built yet of a policy.
-pub(crate) static UNBUILT: [Row; 1] = [Row::Unsupported(Keyword::Tmpl)];
+// What a template has. One word follows another, so that those behind `tmpl` stay its own.
+pub(crate) static TEMPLATE: [Row; 7] = [
+    Row::Once(
+        Keyword::Src,
+        Args::One(Arg::Addr(Slot::Src)),
+        Table::Template,
+    ),
+    Row::Once(
+        Keyword::Dst,
+        Args::One(Arg::Addr(Slot::Dst)),
+        Table::Template,
+    ),
+    Row::Once(
+        Keyword::Proto,
+        Args::One(Arg::Name(Slot::Proto, Names::StateProtocols)),
+        Table::Template,
+    ),
+    Row::Once(
+        Keyword::Spi,
+        Args::One(Arg::U32(Slot::Spi, 0, U32)),
+        Table::Template,
+    ),
+    Row::Once(
+        Keyword::Mode,
+        Args::One(Arg::Name(Slot::Mode, Names::Modes)),
+        Table::Template,
+    ),
+    Row::Once(
+        Keyword::Reqid,
+        Args::One(Arg::U32(Slot::Reqid, 0, U32)),
+        Table::Template,
+    ),
+    Row::Once(
+        Keyword::Level,
+        Args::One(Arg::Name(Slot::Level, Names::Levels)),
+        Table::Template,
+    ),
+];
 
 // What names a policy beside its selector.
 pub(crate) static POLICY_KEY: [Row; 5] = [
@@ -264,6 +316,16 @@ pub(crate) static FLOW: [Row; 9] = [
     ),
 ];
 
+// How many bytes each packet has that is sent.
+pub(crate) static LENGTH: [Row; 1] = [Row::Once(
+    Keyword::Len,
+    Args::One(Arg::U32(Slot::Len, 0, U32)),
+    Table::None,
+)];
+
+// What stands directly after `tick`.
+pub(crate) static TICK: Args = Args::One(Arg::NameOrU64(Slot::Time, Names::Times));
+
 // What may stand directly after a mark.
 pub(crate) static MASK: [Row; 1] = [Row::Once(
     Keyword::Mask,
@@ -335,12 +397,7 @@ pub(crate) static REFUSED: [Row; 11] = [
     Row::Unsupported(Keyword::ReplayOseqHi),
 ];
 
-pub(crate) static SPEC_TABLES: [Table; 4] = [
-    Table::Selector,
-    Table::PolicySpec,
-    Table::Unbuilt,
-    Table::Refused,
-];
+pub(crate) static SPEC_TABLES: [Table; 3] = [Table::Selector, Table::PolicySpec, Table::Refused];
 
 pub(crate) static KEY_TABLES: [Table; 3] = [Table::Selector, Table::PolicyKey, Table::Refused];
 
@@ -355,6 +412,8 @@ pub(crate) static FLUSH_TABLES: [Table; 2] = [Table::PolicyKind, Table::Refused]
 pub(crate) static SET_TABLES: [Table; 2] = [Table::Thresholds, Table::Refused];
 
 pub(crate) static FLOW_TABLES: [Table; 1] = [Table::Flow];
+
+pub(crate) static SEND_TABLES: [Table; 2] = [Table::Flow, Table::Length];
 
 /// The names of a list.
 pub(crate) fn names_in(names: Names) -> &'static [Name]
@@ -372,6 +431,8 @@ pub(crate) fn names_in(names: Names) -> &'static [Name]
         Names::PacketProtocols => &PACKET_PROTOCOLS,
         Names::Modes => &MODES,
         Names::Icvs => &ICVS,
+        Names::Levels => &LEVELS,
+        Names::Times => &TIMES,
     }
 }
 
@@ -391,16 +452,18 @@ pub(crate) fn rows_in(table: Table) -> &'static [Row]
         Table::Mask => &MASK,
         Table::PolicyFlags => &POLICY_FLAGS,
         Table::Limits => &LIMITS,
+        Table::Template => &TEMPLATE,
         Table::Refused => &REFUSED,
-        Table::Unbuilt => &UNBUILT,
         Table::StateSpec => &STATE_SPEC,
         Table::StateId => &STATE_ID,
         Table::StateFilter => &STATE_FILTER,
         Table::StateKind => &STATE_KIND,
         Table::StateFlags => &STATE_FLAGS,
-        Table::StateUnbuilt => &STATE_UNBUILT,
         Table::StateRefused => &STATE_REFUSED,
+        Table::Alloc => &ALLOC,
+        Table::AllocRefused => &ALLOC_REFUSED,
         Table::Packet => &PACKET,
+        Table::Length => &LENGTH,
     }
 }
 
@@ -426,7 +489,20 @@ pub(crate) fn tables_in(head: Head) -> &'static [Table]
         Head::StateList => &STATE_FILTER_TABLES,
         Head::StateFlush => &STATE_FLUSH_TABLES,
         Head::StateCount => &[],
+        Head::AllocSpi => &ALLOC_TABLES,
         Head::Flow(_) => &FLOW_TABLES,
+        Head::Send => &SEND_TABLES,
         Head::Packet => &PACKET_TABLES,
+        Head::Tick => &[],
+    }
+}
+
+/// What has to come directly after a head.
+pub(crate) fn first_in(head: Head) -> Args
+    ensures { result ≡ first_of head }
+{
+    match head {
+        Head::Tick => TICK,
+        _ => Args::None,
     }
 }

@@ -31,7 +31,7 @@ const LEXICAL: [(&[u8], Reason); 21] = [
 ];
 
 // A head that is no head, one that is cut short, and one that isn't taken.
-const HEADS: [(&[u8], Reason); 31] = [
+const HEADS: [(&[u8], Reason); 27] = [
     (b"xfrm", Reason::Missing),
     (b"xfrm policy", Reason::Missing),
     (b"xfrm state", Reason::Missing),
@@ -53,12 +53,8 @@ const HEADS: [(&[u8], Reason); 31] = [
     (b"xfrm monitor", Reason::Unsupported),
     (b"xfrm policy setdefault", Reason::Unsupported),
     (b"xfrm policy getdefault x", Reason::Unsupported),
-    (b"send", Reason::Unsupported),
-    (b"tick now", Reason::Unsupported),
     (b"worker 0", Reason::Unsupported),
     (b"sync", Reason::Unsupported),
-    (b"xfrm state allocspi", Reason::Unsupported),
-    (b"xfrm state allocspi x", Reason::Unsupported),
     (b"xfrm state setdefault", Reason::Word),
     (b"xfrm packet", Reason::Word),
     (b"state add", Reason::Word),
@@ -111,8 +107,8 @@ const WORDS: [(&[u8], Reason); 39] = [
     ),
 ];
 
-// What ip-xfrm(8) has and isn't taken, and what isn't built.
-const UNSUPPORTED: [(&[u8], Reason); 24] = [
+// What ip-xfrm(8) has and isn't taken.
+const UNSUPPORTED: [(&[u8], Reason); 22] = [
     (b"xfrm policy add dev", Reason::Unsupported),
     (b"xfrm policy add ctx", Reason::Unsupported),
     (b"xfrm policy add encap", Reason::Unsupported),
@@ -124,13 +120,11 @@ const UNSUPPORTED: [(&[u8], Reason); 24] = [
     (b"xfrm policy add key", Reason::Unsupported),
     (b"xfrm policy add replay-seq-hi", Reason::Unsupported),
     (b"xfrm policy add replay-oseq-hi", Reason::Unsupported),
-    (b"xfrm policy add tmpl", Reason::Unsupported),
     (b"xfrm policy add dir in dev eth0", Reason::Unsupported),
     (b"xfrm policy add flag localok ctx 1 2", Reason::Unsupported),
     (b"xfrm policy add mark 1 key", Reason::Unsupported),
     (b"xfrm policy add proto route2", Reason::Unsupported),
     (b"xfrm policy add proto hao x", Reason::Unsupported),
-    (b"xfrm policy update tmpl proto esp", Reason::Unsupported),
     (b"xfrm policy delete dev", Reason::Unsupported),
     (b"xfrm policy get coa", Reason::Unsupported),
     (b"xfrm policy deleteall proto hao", Reason::Unsupported),
@@ -382,7 +376,7 @@ const ENDS: [(&[u8], Reason); 57] = [
 ];
 
 // The first word from the left that offends decides.
-const FIRST: [(&[u8], Reason); 12] = [
+const FIRST: [(&[u8], Reason); 11] = [
     (b"xfrm policy add dir up priority x dev", Reason::Word),
     (b"xfrm policy add mask 1 dir dir", Reason::Word),
     (b"xfrm policy add priority x dir up", Reason::Number),
@@ -391,7 +385,6 @@ const FIRST: [(&[u8], Reason); 12] = [
         Reason::Number,
     ),
     (b"xfrm policy add dev dir up", Reason::Unsupported),
-    (b"xfrm policy add dir in tmpl tmpl x", Reason::Unsupported),
     (b"xfrm policy add dir in dir up", Reason::Repeated),
     (b"xfrm policy add dir in dir dev", Reason::Repeated),
     (b"xfrm policy add src x src y", Reason::Address),

@@ -107,7 +107,7 @@ const STATE_WORDS: [(&[u8], Reason); 97] = [
 ];
 
 // What ip-xfrm(8) has and isn't taken, and what isn't built.
-const STATE_UNSUPPORTED: [(&[u8], Reason); 49] = [
+const STATE_UNSUPPORTED: [(&[u8], Reason); 46] = [
     (b"xfrm state add dev", Reason::Unsupported),
     (b"xfrm state add ctx", Reason::Unsupported),
     (b"xfrm state add encap", Reason::Unsupported),
@@ -130,8 +130,6 @@ const STATE_UNSUPPORTED: [(&[u8], Reason); 49] = [
     (b"xfrm state ls dir", Reason::Unsupported),
     (b"xfrm state flush dir", Reason::Unsupported),
     (b"xfrm state add dir in", Reason::Unsupported),
-    (b"xfrm state add limit", Reason::Unsupported),
-    (b"xfrm state update limit time-soft 1", Reason::Unsupported),
     (b"xfrm state add flag esn", Reason::Unsupported),
     (b"xfrm state add flag icmp esn", Reason::Unsupported),
     (
@@ -150,7 +148,6 @@ const STATE_UNSUPPORTED: [(&[u8], Reason); 49] = [
     (b"xfrm state add sel proto hao", Reason::Unsupported),
     (b"xfrm state add sel dev", Reason::Unsupported),
     (b"xfrm state add sel src any key", Reason::Unsupported),
-    (b"xfrm state add sel limit byte-soft 1", Reason::Unsupported),
     (b"xfrm state add sel proto tcp dir", Reason::Unsupported),
     (b"xfrm state add auth x y coa", Reason::Unsupported),
     (b"xfrm state add mark 1 ctx", Reason::Unsupported),
@@ -452,12 +449,11 @@ const STATE_ENDS: [(&[u8], Reason); 49] = [
 ];
 
 // The first word from the left that offends decides.
-const STATE_FIRST: [(&[u8], Reason); 16] = [
+const STATE_FIRST: [(&[u8], Reason); 15] = [
     (b"xfrm state add dir spi 0", Reason::Unsupported),
     (b"xfrm state add spi 0 dir", Reason::Range),
     (b"xfrm state add proto 50 dev", Reason::Word),
     (b"xfrm state delete limit dev", Reason::Word),
-    (b"xfrm state add limit x", Reason::Unsupported),
     (b"xfrm state add flag esn x", Reason::Unsupported),
     (b"xfrm state add flag x esn", Reason::Word),
     (b"xfrm state add sel src any src x", Reason::Repeated),

@@ -27,7 +27,9 @@ impl Meaning {
             Meaning::Action(action) => Value::Action(action),
             Meaning::Proto(proto) => Value::Proto(proto),
             Meaning::Mode(mode) => Value::Mode(mode),
+            Meaning::Level(level) => Value::Level(level),
             Meaning::Bool(x) => Value::Bool(x),
+            Meaning::Now => Value::Now,
         }
     }
 }
@@ -126,6 +128,10 @@ pub(crate) fn read_value(arg: Arg, word: &[u8]) -> Result<Option<(Slot, Value)>,
         Arg::NameOrU8(slot, first, second) => {
             let other = name_or(second, word, u8_value(0, 255, word));
             Ok(Some((slot, name_or(first, word, other)?)))
+        }
+        Arg::NameOrU64(slot, names) => {
+            let other = u64_value(0, u64::MAX, word);
+            Ok(Some((slot, name_or(names, word, other)?)))
         }
         Arg::Name(slot, names) => { Ok(Some((slot, name_or(names, word, Err(Reason::Word))?))) }
         Arg::Addr(slot) => Ok(Some((slot, addr_value(word)?))),

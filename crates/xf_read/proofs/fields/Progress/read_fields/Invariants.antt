@@ -6,4 +6,4 @@ use Rattle.xf_read.proofs.fields.Progress.read_fields.Given as goal
 
 abbrev pub invariant-words : goal.invariant-words
 invariant-words l =
-    after_words l.tables (seen l.self) (shown (drop l.word-index l.words)) ≡ after_words l.tables start (shown l.words)
+    after_words l.tables (seen l.self) (shown (drop l.word-index l.words)) ≡ after_words l.tables (start l.fn.first) (shown l.words)

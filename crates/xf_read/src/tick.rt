@@ -1,0 +1,19 @@
+//! From fields to the passing of time.
+ghost use Rattle.std.specs.Prelude.{◌≡◌};
+ghost use Rattle.xf_read.specs.Ticks as rule;
+
+use crate::lookup::value_at;
+use crate::reader::Item;
+use crate::row::{Field, Slot, Value};
+use xf_types::{Call, Reason};
+
+/// The time to which a line lets time go on.
+pub(crate) fn read_tick(fields: &[Field]) -> Result<Item, Reason>
+    ensures { result ≡ rule.tick_of fields.now }
+{
+    match value_at(fields, Slot::Time) {
+        Some(Value::Now) => Ok(Item::TickNow),
+        Some(Value::U64(now)) => Ok(Item::One(Call::Tick(now))),
+        _ => Err(Reason::Missing),
+    }
+}
