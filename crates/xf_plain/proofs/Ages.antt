@@ -133,10 +133,6 @@ kept-later now t new n most kept e =
       few = kept.few;
     }
 
-later-templates : (now : ℕ) (p : Policy) → p.spec.templates ≡ [] → (policy_later now p).spec.templates ≡ []
-later-templates now p none =
-    elim (policy_warns now p) as (λ b. (soft_if b p).spec.templates ≡ []) [ true ↦ none | false ↦ none ]
-
 pub IsKept-later : (now : ℕ) (old new : List Policy) (next_index max_policies : ℕ) → IsKept old next_index max_policies
     → new ≡ map (policy_later now) (without (policy_ends now) old) → IsKept new next_index max_policies
 IsKept-later now old new next_index max_policies kept e =
@@ -146,9 +142,4 @@ IsKept-later now old new next_index max_policies kept e =
       index_high = kept.index_high;
       room = omega (arith, kept.room, ap (length {A = Policy}) e, length-map stay (policy_later now), length-without (policy_ends now) old);
       few = kept.few;
-      plain =
-          subst (All (λ (p : Policy). p.spec.templates ≡ [])) (sym e)
-          (All-map (λ (p : Policy). p.spec.templates ≡ []) (policy_later now) stay
-          (All-weaker (λ (p : Policy). p.spec.templates ≡ []) (λ (p : Policy). (policy_later now p).spec.templates ≡ []) (later-templates now) stay
-          (All-filter _ (λ (p : Policy). p.spec.templates ≡ []) old kept.plain)));
     }

@@ -106,6 +106,7 @@ first-found test (h ∷ hs) = by (test h.state) (first-found test hs)
   where
     states : List Sa
     states = map (λ (x : HeldView). x.state) hs
+
     place : ℕ
     place = position_or_len (λ (x : HeldView). test x.state) hs
 
@@ -130,6 +131,7 @@ first-within test hs t is_t =
   where
     place : ℕ
     place = position_or_len test hs
+
     by : (b : Bool) → nat_lt place (length hs) ≡ b → IfSome (cond b (Some place) None) (λ p. p < length hs)
     by true e = grind (arith, nat_tests, e)
     by false e = tt

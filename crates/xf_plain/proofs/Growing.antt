@@ -2,14 +2,21 @@
 use Rattle.std.proofs.Common.{arith, ◌≡◌, ◌≢◌, ◌⊎◌, inl, inr, ◌+◌, ◌*◌, ◌&&◌, ◌==◌, not, Bool, true, false, cond, ap, sym, subst, refl, length, ◌∙◌}
 use Rattle.std.specs.Prelude.{Option, None, Some, nat_le, find}
 use Rattle.xf_types.specs.declared.call.Reply.{Reply}
-use Rattle.xf_types.specs.declared.call.Reply.TheVariants.{NoMemory, Invalid, PolicyExists, NoEntry, DoneIndex, DoneSid, NoState}
+use Rattle.xf_types.specs.declared.call.Reply.TheVariants.{NoMemory, Invalid, PolicyExists, NoEntry, DoneIndex, DoneSid, NoState, FlowNone, FlowBlock, FlowAllow, Waiting, Acquire}
 use Rattle.xf_types.specs.declared.policy.Policy.{Policy}
 use Rattle.xf_types.specs.declared.policy.PolicySpec.{PolicySpec}
 use Rattle.xf_types.specs.declared.policy.PolicyKey.{PolicyKey}
 use Rattle.xf_types.specs.declared.state.Sa.{Sa}
 use Rattle.xf_types.specs.declared.state.SaSpec.{SaSpec}
-use Rattle.xf_types.specs.PolicyList.{has_key}
-use Rattle.xf_types.specs.StateList.{has_sid, changed, latest_match, id_of}
+use Rattle.xf_types.specs.declared.network.Addr.{Addr}
+use Rattle.xf_types.specs.declared.network.Flow.{Flow}
+use Rattle.xf_types.specs.declared.policy.Action.{Action}
+use Rattle.xf_types.specs.declared.policy.Action.TheVariants.{Allow, Block}
+use Rattle.xf_types.specs.declared.policy.Template.{Template}
+use Rattle.xf_types.specs.FlowRules.{acquired, acquired_spec, free_seq, last_seq, flow_answer, by_action, by_policy, flow_rule, resolved}
+use Rattle.xf_types.specs.Resolution.{Resolution, Through, Waits, Wants}
+use Rattle.xf_types.specs.PolicyList.{first_policy, has_key}
+use Rattle.xf_types.specs.StateList.{has_sid, changed, latest_match, id_of, is_none}
 use Rattle.xf_types.specs.StateRules.{is_full, full_of_states, state_added_if_room, refreshed_record, state_updated, state_update}
 use Rattle.xf_types.specs.Counters.{next_in}
 use Rattle.xf_types.specs.Same.{dir_number}
@@ -131,3 +138,37 @@ pub GrowsLittle-state_updated : (m n : Machine) (spec : SaSpec) (r : Reply)
 GrowsLittle-state_updated m n spec r done memory =
     grows-answered m n (state_update m.shown spec) r done memory
     (little-state_updated m.shown spec (latest_match m.shown.states (id_of spec)))
+
+-- ---- flows
+
+little-acquired : (s : Shown) (p : Policy) (t : Template) (src dst : Addr) → Little s (acquired s p t src dst)
+little-acquired s p t src dst =
+    little-if s (is_full s) (full_of_states s)
+    (answer (Acquire (free_seq s)) (LeaveThen (record s { next_seq = next_in last_seq (free_seq s) }) is_none
+    (Some (record { spec = acquired_spec p t src dst (free_seq s); larval = true }))))
+    (record { grows = record { numbers = omega arith; sids = omega arith } })
+    (record { grows = record { numbers = omega arith; sids = omega arith } })
+
+little-resolved : (s : Shown) (p : Policy) (r : Resolution)
+    → Little s (flow_answer p (λ t place src dst. acquired s p t src dst) r)
+little-resolved s p (Through path) = little-stays s (FlowAllow p.index path)
+little-resolved s p (Waits seq) = little-stays s (Waiting seq)
+little-resolved s p (Wants t place src dst) = little-acquired s p t src dst
+
+little-by_action : (s : Shown) (flow : Flow) (p : Policy) (action : Action)
+    → Little s (by_action s flow p (λ t place src dst. acquired s p t src dst) action)
+little-by_action s flow p Block = little-stays s (FlowBlock p.index)
+little-by_action s flow p Allow = little-resolved s p (resolved s flow p)
+
+little-by_policy : (s : Shown) (flow : Flow) (o : Option Policy)
+    → Little s (by_policy s flow (λ p t place src dst. acquired s p t src dst) o)
+little-by_policy s flow None = little-stays s FlowNone
+little-by_policy s flow (Some p) = little-by_action s flow p p.spec.action
+
+-- or whatever a flow was answered
+pub GrowsLittle-flow : (m n : Machine) (flow : Flow) (r : Reply)
+    → (r ≢ NoMemory → outcome r n ≡ applied m (flow_rule m.shown flow)) → (r ≡ NoMemory → n ≡ m)
+    → GrowsLittle m.shown n.shown
+GrowsLittle-flow m n flow r done memory =
+    grows-answered m n (flow_rule m.shown flow) r done memory
+    (little-by_policy m.shown flow (first_policy m.shown.policies flow))

@@ -24,13 +24,12 @@ All-inserted P p policies h k = All-insert P policies (position_or_len (λ q. co
 
 -- a machine with room keeps what it keeps when a policy without templates goes to its place
 pub IsKept-inserted : (p : Policy) (old new : List Policy) (next_index max_policies : ℕ) → IsKept old next_index max_policies
-    → length old < max_policies → p.spec.templates ≡ [] → new ≡ inserted p old → IsKept new next_index max_policies
-IsKept-inserted p old new next_index max_policies kept room plain e = record {
+    → length old < max_policies → new ≡ inserted p old → IsKept new next_index max_policies
+IsKept-inserted p old new next_index max_policies kept room e = record {
   index_low = kept.index_low;
   index_high = kept.index_high;
   room = rw (e, length-inserted p old) (omega (arith, room));
   few = kept.few;
-  plain = rw e (All-inserted (λ (q : Policy). q.spec.templates ≡ []) p old kept.plain plain);
 }
 
 -- ---- policies that leave
@@ -69,14 +68,13 @@ IsKept-without test old new next_index max_policies kept e = record {
   index_high = kept.index_high;
   room = omega (arith, kept.room, ap (length {A = Policy}) e, length-without test old);
   few = kept.few;
-  plain = rw e (All-without (λ (q : Policy). q.spec.templates ≡ []) test old kept.plain);
 }
 
 -- and when a policy takes the place of one that is found
 pub IsKept-replaced : (test : Policy → Bool) (p : Policy) (old new : List Policy) (next_index max_policies : ℕ)
-    → IsKept old next_index max_policies → is_some (find test old) ≡ true → p.spec.templates ≡ []
+    → IsKept old next_index max_policies → is_some (find test old) ≡ true
     → new ≡ inserted p (without test old) → IsKept new next_index max_policies
-IsKept-replaced test p old new next_index max_policies kept found plain e =
+IsKept-replaced test p old new next_index max_policies kept found e =
     IsKept-inserted p (without test old) new next_index max_policies
     (IsKept-without test old (without test old) next_index max_policies kept refl)
-    (omega (arith, kept.room, length-without_found test old found)) plain e
+    (omega (arith, kept.room, length-without_found test old found)) e

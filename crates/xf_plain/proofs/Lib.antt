@@ -1,7 +1,6 @@
 pub mod Places
 pub mod Inserting
 pub mod Numbers
-pub mod Flows
 pub mod Growing
 pub mod Tables
 pub mod Fates
@@ -11,3 +10,4 @@ pub mod Packets
 pub mod Adding
 pub mod Walks
 pub mod Ages
+pub mod Asking

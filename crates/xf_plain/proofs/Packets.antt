@@ -22,7 +22,7 @@ use Rattle.xf_plain.proofs.KeptStates.{at-some}
 -- ---- the reply
 
 -- neither want of memory nor what other threads cause
-record IsSettled (r : Reply) : Type 0 where
+pub record IsSettled (r : Reply) : Type 0 where
   pub memory : r ≢ NoMemory
   pub settled : is_contended r ≡ false
 

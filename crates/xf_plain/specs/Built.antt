@@ -1,12 +1,12 @@
 -- Which calls the plain machine has so far.
-use Rattle.std.specs.Prelude.{◌≡◌, Bool, true, false, ◌==◌, [], length}
+use Rattle.std.specs.Prelude.{Bool, true, false}
 use Rattle.xf_types.specs.declared.call.Call.{Call}
 use Rattle.xf_types.specs.declared.call.Call.TheVariants as call
 
--- the calls on policies, where those that are added have no templates, those on states but allocspi, flows, packets, outputs and ticks
+-- every call but allocspi
 abbrev pub IsBuilt : Call → Type 0
-IsBuilt (call.PolicyAdd spec) = spec.templates ≡ []
-IsBuilt (call.PolicyUpdate spec) = spec.templates ≡ []
+IsBuilt (call.PolicyAdd spec) = Unit {0}
+IsBuilt (call.PolicyUpdate spec) = Unit {0}
 IsBuilt (call.PolicyDelete key) = Unit {0}
 IsBuilt (call.PolicyGet key) = Unit {0}
 IsBuilt (call.PolicyDeleteAll filter) = Unit {0}
@@ -23,6 +23,7 @@ IsBuilt (call.StateList filter) = Unit {0}
 IsBuilt (call.StateFlush proto) = Unit {0}
 IsBuilt call.StateCount = Unit {0}
 IsBuilt (call.Flow flow) = Unit {0}
+IsBuilt (call.TryFlow flow) = Unit {0}
 IsBuilt (call.Packet packet) = Unit {0}
 IsBuilt (call.Output sid len) = Unit {0}
 IsBuilt (call.Tick given) = Unit {0}
@@ -30,8 +31,8 @@ IsBuilt _ = ⊥
 
 -- the test of this
 abbrev pub is_built : Call → Bool
-is_built (call.PolicyAdd spec) = length spec.templates == 0
-is_built (call.PolicyUpdate spec) = length spec.templates == 0
+is_built (call.PolicyAdd spec) = true
+is_built (call.PolicyUpdate spec) = true
 is_built (call.PolicyDelete key) = true
 is_built (call.PolicyGet key) = true
 is_built (call.PolicyDeleteAll filter) = true
@@ -48,6 +49,7 @@ is_built (call.StateList filter) = true
 is_built (call.StateFlush proto) = true
 is_built call.StateCount = true
 is_built (call.Flow flow) = true
+is_built (call.TryFlow flow) = true
 is_built (call.Packet packet) = true
 is_built (call.Output sid len) = true
 is_built (call.Tick given) = true

@@ -3,3 +3,4 @@ pub mod Growth
 pub mod Kept
 pub mod Replacing
 pub mod Table
+pub mod Wanted

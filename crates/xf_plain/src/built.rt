@@ -4,14 +4,15 @@ ghost use Rattle.xf_plain.specs.Built.{IsBuilt, is_built};
 
 use xf_types::Call;
 
-/// Whether the machine has this call already: one on policies without templates or on states, a flow, a packet, an output, or a tick.
+/// Whether the machine has this call already: every one but allocspi.
 pub fn is_built(call: &Call) -> bool
     ensures test { result ≡ is_built call.now }
     ensures fact { IsTrue result ↔ IsBuilt call.now }
 {
     match call {
-        Call::PolicyAdd(spec) | Call::PolicyUpdate(spec) => spec.templates.as_slice().is_empty(),
-        Call::PolicyDelete(_)
+        Call::PolicyAdd(_)
+        | Call::PolicyUpdate(_)
+        | Call::PolicyDelete(_)
         | Call::PolicyGet(_)
         | Call::PolicyDeleteAll(_)
         | Call::PolicyList(_)
@@ -27,6 +28,7 @@ pub fn is_built(call: &Call) -> bool
         | Call::StateFlush(_)
         | Call::StateCount
         | Call::Flow(_)
+        | Call::TryFlow(_)
         | Call::Packet(_)
         | Call::Output { .. }
         | Call::Tick(_) => true,

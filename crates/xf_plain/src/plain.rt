@@ -3,6 +3,7 @@ ghost use Rattle.std.specs.Prelude.{◌≡◌, ◌≢◌, ◌<◌, ◌≤◌, �
 ghost use Rattle.xf_plain.specs.Built.{IsBuilt};
 ghost use Rattle.xf_plain.specs.Growth.{GrowsLittle};
 
+mod flows;
 mod policies;
 mod states;
 mod time;
@@ -11,7 +12,7 @@ use crate::table::StateTable;
 use crate::{indices, listing};
 use std::alloc::Global;
 use std::marker::Model;
-use xf_types::{Action, Call, Flow, NoMemory, Path, Policy, PolicySpec, Reply};
+use xf_types::{Call, NoMemory, Policy, PolicySpec, Reply};
 
 /// The two databases as plain lists. A contract sees it as the machine.
 #[derive(Drop)]
@@ -54,7 +55,8 @@ impl Model for Plain {
     } };
 
     ghost invariant = { λ p.
-        AreKept p.policies.items p.next_index p.max_policies p.states.states p.next_sid p.max_states };
+        AreKept p.policies.items p.next_index p.max_policies p.states.states p.next_sid p.max_states
+        p.next_seq };
 }
 
 impl Plain {
@@ -103,14 +105,12 @@ impl Plain {
     ghost use Rattle.xf_types.specs.Changes.{applied};
     ghost use Rattle.xf_types.specs.History.{is_contended};
     ghost use Rattle.xf_types.specs.PolicyRules.{with_policy, policy_added_if_room, added_with_index, policy_add};
-    ghost use Rattle.xf_types.specs.FlowRules.{flow_rule};
     ghost use Rattle.xf_types.specs.Steps.{step};
 
     /// Lists a new policy with this index.
     fn put(&mut self, spec: &PolicySpec, index: u32) -> Result<(), NoMemory>
         requires young { self.old.shown.next_number < 2 ^ 63 }
         requires room { length self.old.shown.policies < self.old.shown.max_policies }
-        requires plain { spec.now.templates ≡ [] }
         ensures ok { OnOk result
             (self.new ≡ record { shown = with_policy self.old.shown spec.now index self.old.shown.policies; own = self.old.own }) }
         ensures err { OnErr result (self.new ≡ self.old) }
@@ -131,7 +131,6 @@ impl Plain {
     fn put_with_index(&mut self, spec: &PolicySpec) -> Reply
         requires young { self.old.shown.next_number < 2 ^ 63 }
         requires room { length self.old.shown.policies < self.old.shown.max_policies }
-        requires plain { spec.now.templates ≡ [] }
         ensures answer { result ≢ Reply.NoMemory
             → outcome result self.new ≡ applied self.old (added_with_index self.old.shown spec.now) }
         ensures memory { result ≡ Reply.NoMemory → self.new ≡ self.old }
@@ -157,7 +156,6 @@ impl Plain {
     /// Lists a new policy where there is room.
     fn put_if_room(&mut self, spec: &PolicySpec) -> Reply
         requires young { self.old.shown.next_number < 2 ^ 63 }
-        requires plain { spec.now.templates ≡ [] }
         ensures answer { result ≢ Reply.NoMemory
             → outcome result self.new ≡ applied self.old (policy_added_if_room self.old.shown spec.now) }
         ensures memory { result ≡ Reply.NoMemory → self.new ≡ self.old }
@@ -174,7 +172,6 @@ impl Plain {
 
     fn policy_add(&mut self, spec: &PolicySpec) -> Reply
         requires young { self.old.shown.next_number < 2 ^ 63 }
-        requires plain { spec.now.templates ≡ [] }
         ensures answer { result ≢ Reply.NoMemory
             → outcome result self.new ≡ applied self.old (policy_add self.old.shown spec.now) }
         ensures memory { result ≡ Reply.NoMemory → self.new ≡ self.old }
@@ -186,23 +183,6 @@ impl Plain {
         match listing::find_same(self.policies.as_slice(), spec) {
             Some(old) => Reply::PolicyExists(old.index),
             None => self.put_if_room(spec),
-        }
-    }
-
-    fn flow(&self, flow: &Flow) -> Reply
-        ensures answer { outcome result self.now ≡ applied self.now (flow_rule self.now.shown flow.now) }
-        ensures memory { result ≢ Reply.NoMemory }
-        ensures settled { is_contended result ≡ false }
-    {
-        match listing::find_first(self.policies.as_slice(), flow) {
-            None => Reply::FlowNone,
-            Some(policy) => match policy.spec.action {
-                Action::Block => Reply::FlowBlock(policy.index),
-                Action::Allow => Reply::FlowAllow {
-                    index: policy.index,
-                    path: Path::empty(),
-                },
-            },
         }
     }
 
@@ -236,6 +216,7 @@ impl Plain {
             Call::StateFlush(proto) => self.state_flush(*proto),
             Call::StateCount => self.state_count(),
             Call::Flow(flow) => self.flow(flow),
+            Call::TryFlow(flow) => self.try_flow(flow),
             Call::Packet(packet) => self.packet(packet),
             Call::Output { sid, len } => self.output(*sid, *len),
             Call::Tick(given) => self.tick(*given),

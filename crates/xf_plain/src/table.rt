@@ -1,18 +1,25 @@
 //! The state list: each state with its own part, in the order of adding.
-ghost use Rattle.std.specs.Prelude.{◌≡◌, ◌<◌, ◌≤◌, ◌&&◌, ◌++◌, [], not, All, IfOk, IfSome, OnOk, OnErr, option_copied, Some, count_by, filter, filter_map, find, map, position, zip, length, slice_get, vec_capacity};
+ghost use Rattle.std.specs.Prelude.{◌≡◌, ◌<◌, ◌≤◌, ◌==◌, ◌&&◌, ◌++◌, [], not, All, IfOk, IfSome, OnOk, OnErr, option_copied, Some, count_by, filter, filter_map, find, map, position, zip, length, slice_get, vec_capacity};
 ghost use Rattle.xf_plain.specs.Table.{Puts, own_in_table, table_of, table_with, table_without, table_changed, table_later, held_later, pair_of, state_at};
 ghost use Rattle.xf_types.specs.StateList.{latest_match, last_of, has_id, has_sid, is_larval_of, is_that, state_meets, larval_replaced};
 ghost use Rattle.xf_types.specs.StateRules.{refreshed_record};
 ghost use Rattle.xf_types.specs.PolicyList.{without};
 ghost use Rattle.xf_types.specs.Same.{meets_one, same_proto};
+ghost use Rattle.std.specs.List.{list_any};
+ghost use Rattle.xf_paths.specs.Shown.{shown};
+ghost use Rattle.xf_types.specs.Counters.{first_free};
+ghost use Rattle.xf_types.specs.FlowRules.{last_seq};
+ghost use Rattle.xf_types.specs.Resolution.{resolution};
 ghost use Rattle.xf_types.specs.TickRules.{state_ends, state_event};
 ghost use Rattle.xf_types.specs.TrafficRules.{output_at, packet_at};
 
 use crate::aging::push_some;
+use crate::indices::next_seq;
 use std::alloc::{AllocError, Global};
 use std::marker::Model;
 use xf_held::{Held, admits, has_id, is_larval_of, is_that, meets_proto};
-use xf_types::{Event, NoMemory, Packet, Proto, Reply, Sa, SaFilter, SaId, SaSpec};
+use xf_paths::{Resolved, resolve};
+use xf_types::{Event, Flow, NoMemory, Packet, Proto, Reply, Sa, SaFilter, SaId, SaSpec, Template};
 
 /// The states, the latest last.
 #[derive(Debug, Drop)]
@@ -110,6 +117,39 @@ impl StateTable {
             None => None,
             Some(found) => Some(*found.state()),
         }
+    }
+
+    /// The states that a flow goes through by these templates.
+    pub(crate) fn resolve(&self, flow: &Flow, templates: &[Template]) -> Resolved
+        requires { length templates.now ≤ 6 }
+        ensures { shown result ≡ resolution self.now.states flow.now templates.now 0 flow.now.src flow.now.dst }
+    {
+        resolve(&self.held, flow, templates)
+    }
+
+    /// Whether a state has this sequence number.
+    fn has_seq(&self, seq: u32) -> bool
+        ensures { result ≡ list_any (λ x. x.spec.seq == seq) self.now.states }
+    {
+        any_has_seq(&self.held, seq)
+    }
+
+    /// The first sequence number that no state has, in cyclic order from this one.
+    pub(crate) fn free_seq(&self, from: u32) -> u32
+        requires low { 0 < from }
+        requires high { from ≤ last_seq }
+        ensures value { result
+            ≡ first_free (λ seq. list_any (λ x. x.spec.seq == seq) self.now.states) last_seq from
+            (length self.now.states) }
+    {
+        let mut seq = from;
+        'tries: for _tries in 0..self.len() {
+            if !self.has_seq(seq) {
+                return seq;
+            }
+            seq = next_seq(seq);
+        }
+        seq
     }
 
     /// How many the filter admits.
@@ -297,4 +337,10 @@ fn position_of(held: &[Held], sid: u64) -> Option<usize>
     ensures { result ≡ position (λ h. has_sid sid h.state) held.now }
 {
     held.iter().position(|h| h.state().sid == sid)
+}
+
+fn any_has_seq(held: &[Held], seq: u32) -> bool
+    ensures { result ≡ list_any (λ h. h.state.spec.seq == seq) held.now }
+{
+    held.iter().any(|h| h.state().spec.seq == seq)
 }

@@ -26,7 +26,6 @@ impl Plain {
     /// Lists the policy in the place of the one that is the same and has this index.
     fn replace(&mut self, spec: &PolicySpec, index: u32) -> Reply
         requires young { self.old.shown.next_number < 2 ^ 63 }
-        requires plain { spec.now.templates ≡ [] }
         requires listed { is_some (policy_same_as self.old.shown spec.now) ≡ true }
         ensures answer { result ≢ Reply.NoMemory
             → outcome result self.new ≡ applied self.old (replaced self.old.shown spec.now index) }
@@ -51,7 +50,6 @@ impl Plain {
 
     pub(super) fn policy_update(&mut self, spec: &PolicySpec) -> Reply
         requires young { self.old.shown.next_number < 2 ^ 63 }
-        requires plain { spec.now.templates ≡ [] }
         ensures answer { result ≢ Reply.NoMemory
             → outcome result self.new ≡ applied self.old (policy_update self.old.shown spec.now) }
         ensures memory { result ≡ Reply.NoMemory → self.new ≡ self.old }

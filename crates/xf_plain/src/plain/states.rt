@@ -1,5 +1,5 @@
 //! Calls on states, packets and outputs.
-ghost use Rattle.std.specs.Prelude.{◌≡◌, ◌≢◌, ◌<◌, ◌^◌, IfOk, OnOk, OnErr, IfSome, Some, None, find, length, slice_get, false};
+ghost use Rattle.std.specs.Prelude.{◌≡◌, ◌≢◌, ◌<◌, ◌^◌, IfOk, OnOk, OnErr, IfSome, Some, None, find, length, slice_get, true, false};
 
 use super::Plain;
 use xf_held::{Held, id_of, id_of_packet};
@@ -10,7 +10,7 @@ impl Plain {
     ghost use Rattle.xf_types.specs.Changes.{applied, machine_after, LeaveThen};
     ghost use Rattle.xf_types.specs.History.{is_contended};
     ghost use Rattle.xf_types.specs.OneState.{on_found};
-    ghost use Rattle.xf_types.specs.StateList.{has_sid, is_that, latest_match};
+    ghost use Rattle.xf_types.specs.StateList.{has_sid, is_none, is_that, latest_match};
     ghost use Rattle.xf_types.specs.StateRules.{state_added_if_room, state_add, state_update, state_updated, state_delete, state_get, state_deleteall, state_list, state_flush, state_count};
     ghost use Rattle.xf_types.specs.TrafficRules.{output_at, packet_at, id_of_packet};
     ghost use Rattle.xf_types.specs.declared.call.Reply.TheVariants.{NoState, Stale};
@@ -28,6 +28,23 @@ impl Plain {
         let alloc = *self.policies.allocator();
         let held = Held::new(alloc, sid, self.time, spec)?;
         self.states.replace(one, held)?;
+        self.next_sid += 1;
+        Ok(sid)
+    }
+
+    /// Lists a new larval state.
+    pub(super) fn put_larval(&mut self, spec: &SaSpec) -> Result<u64, NoMemory>
+        requires sids { self.old.shown.next_sid < 2 ^ 63 }
+        requires room { length self.old.shown.states < self.old.shown.max_states }
+        ensures sid { IfOk result (λ sid. sid ≡ self.old.shown.next_sid) }
+        ensures ok { OnOk result (self.new ≡ machine_after self.old
+            (LeaveThen self.old.shown is_none (Some (record { spec = spec.now; larval = true })))) }
+        ensures err { OnErr result (self.new ≡ self.old) }
+    {
+        let sid = self.next_sid;
+        let alloc = *self.policies.allocator();
+        let held = Held::new_larval(alloc, sid, self.time, spec)?;
+        self.states.replace(&None, held)?;
         self.next_sid += 1;
         Ok(sid)
     }

@@ -1,13 +1,16 @@
-use Rattle.std.proofs.Common.{rules, ◌≡◌, []}
-use Rattle.std.specs.Prelude.{Some}
-use Rattle.xf_types.specs.declared.policy.Policy.{Policy}
-use Rattle.xf_types.specs.PolicyList.{first_policy}
-use Rattle.xf_plain.proofs.Flows.{at_first_policy, flow_rule-allowed}
+use Rattle.std.proofs.Common.{◌≡◌, ap, sym, ◌∙◌}
+use Rattle.xf_types.specs.Changes.{Answer, applied}
+use Rattle.xf_types.specs.FlowRules.{acquired}
+use Rattle.xf_plain.proofs.Asking.{acquires, contended-asked}
 use Rattle.xf_plain.proofs.plain.Plain.flow.Goals as goal
 
-pub returns-in-Allow-clause-answer : goal.returns-in-Allow-clause-answer
-returns-in-Allow-clause-answer c =
-    let found : first_policy c.args.self.now.shown.policies c.args.flow.now ≡ Some c.in-Some.policy.now = search rules in
-    let listed : first_policy c.self.inside.policies.items c.args.flow.now ≡ Some c.in-Some.policy.now = search rules in
-    flow_rule-allowed c.args.self.now c.args.flow.now c.in-Some.policy.now c.empty.result found c.in-Allow.is
-    (at_first_policy (λ (p : Policy). p.spec.templates ≡ []) _ _ _ c.self.invariant.policies.plain listed) c.empty.ensures
+pub returns-in-Answer-clause-settled : goal.returns-in-Answer-clause-settled
+returns-in-Answer-clause-settled c = contended-asked c.args.self.now.shown c.args.flow.now c.in-Answer.reply c.in-Answer.ensures
+
+pub returns-in-Wants-clause-answer : goal.returns-in-Wants-clause-answer
+returns-in-Wants-clause-answer c done =
+    let wanted = c.in-Wants.ensures in
+    c.acquire.ensures.answer done
+    ∙ ap (applied c.args.self.now)
+    (acquires c.args.self.now.shown wanted.policy wanted.template wanted.src wanted.dst c.in-Wants.wanted.spec wanted.asked
+    ∙ sym (wanted.answer (λ p t place src dst. acquired c.args.self.now.shown p t src dst)))

@@ -1,4 +1,4 @@
-use Rattle.std.proofs.Common.{◌≡◌, ap, ◌∙◌}
+use Rattle.std.proofs.Common.{ap, ◌∙◌}
 use Rattle.std.specs.Prelude.{find}
 use Rattle.xf_types.specs.declared.call.Reply.TheVariants.{Stale}
 use Rattle.xf_types.specs.Machine.{Machine}
@@ -13,6 +13,7 @@ use Rattle.xf_plain.proofs.plain.Plain.output.Goals as goal
 pub invariant_of-self : goal.invariant_of-self
 invariant_of-self c = record {
   policies = c.self.invariant.policies;
+  seq = c.self.invariant.seq;
   states =
       kept-treated (λ s. output_at c.args.len c.self.inside.time s (own_in_table c.self.inside.states s)) c.send.result
       c.self.inside.states c.send.new.self c.in-Some.place _ _ c.in-Some.ensures.within c.send.ensures c.self.invariant.states;

@@ -12,6 +12,7 @@ use Rattle.xf_plain.proofs.plain.Plain.packet.Goals as goal
 pub invariant_of-self : goal.invariant_of-self
 invariant_of-self c = record {
   policies = c.self.invariant.policies;
+  seq = c.self.invariant.seq;
   states =
       kept-treated (λ s. packet_at c.args.packet.now c.self.inside.time s (own_in_table c.self.inside.states s)) c.receive.result
       c.self.inside.states c.receive.new.self c.in-Some.place _ _ c.in-Some.ensures.within c.receive.ensures c.self.invariant.states;

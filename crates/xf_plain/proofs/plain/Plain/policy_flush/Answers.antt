@@ -9,4 +9,5 @@ invariant_of-self c = record {
       IsKept-without (λ (p : Policy). meets_one same_ptype c.args.ptype p.spec.ptype) c.self.inside.policies.items _ _ _
       c.self.invariant.policies c.remove_of_ptype.ensures;
   states = c.self.invariant.states;
+  seq = c.self.invariant.seq;
 }

@@ -1,6 +1,5 @@
-use Rattle.std.proofs.Common.{ap, length, ◌≡◌, ◌<◌, [], ◌∙◌, false, subst, sym}
+use Rattle.std.proofs.Common.{length, ◌<◌, false, subst, sym}
 use Rattle.xf_types.specs.declared.policy.Policy.{Policy}
-use Rattle.xf_types.specs.declared.policy.PolicySpec.{PolicySpec}
 use Rattle.xf_types.specs.Machine.{Machine}
 use Rattle.xf_plain.proofs.Inserting.{IsKept-inserted}
 use Rattle.xf_plain.proofs.plain.Plain.put.Goals as goal
@@ -19,5 +18,4 @@ invariant_of-self-2 c =
     let room : length c.self.inside.policies.items < c.self.inside.max_policies =
     subst (λ (m : Machine). length m.shown.policies < m.shown.max_policies) (sym c.self.view_is) c.requires.room
     in
-    let plain : c.copy.result.templates ≡ [] = ap (λ (s : PolicySpec). s.templates) c.copy.ensures ∙ c.requires.plain in
-    record { policies = IsKept-inserted p c.self.inside.policies.items _ _ _ c.self.invariant.policies room plain c.in_ok-insert.ensures.ok; states = c.self.invariant.states }
+    record { policies = IsKept-inserted p c.self.inside.policies.items _ _ _ c.self.invariant.policies room c.in_ok-insert.ensures.ok; states = c.self.invariant.states; seq = c.self.invariant.seq }

@@ -9,6 +9,7 @@ use Rattle.xf_plain.proofs.plain.Plain.put_state.Goals as goal
 pub invariant_of-self-2 : goal.invariant_of-self-2
 invariant_of-self-2 c = record {
   policies = c.self.invariant.policies;
+  seq = c.self.invariant.seq;
   states =
       kept-replaced (is_that c.args.one.now) c.self.inside.states.states c.replace.new.self.states c.in_ok-held.held.state _ _
       c.self.invariant.states

@@ -1,7 +1,6 @@
-use Rattle.std.proofs.Common.{ap, ◌≡◌, [], ◌∙◌, true, false, subst, sym}
+use Rattle.std.proofs.Common.{◌≡◌, true, false, subst, sym}
 use Rattle.std.specs.Prelude.{find, is_some}
 use Rattle.xf_types.specs.declared.policy.Policy.{Policy}
-use Rattle.xf_types.specs.declared.policy.PolicySpec.{PolicySpec}
 use Rattle.xf_types.specs.Machine.{Machine}
 use Rattle.xf_types.specs.PolicyList.{is_same}
 use Rattle.xf_plain.proofs.Inserting.{IsKept-replaced}
@@ -22,9 +21,9 @@ invariant_of-self c =
     subst (λ (m : Machine). is_some (find (λ (q : Policy). is_same q.spec c.args.spec.now) m.shown.policies) ≡ true)
     (sym c.self.view_is) c.requires.listed
     in
-    let plain : c.copy.result.templates ≡ [] = ap (λ (s : PolicySpec). s.templates) c.copy.ensures ∙ c.requires.plain in
     record {
       policies = IsKept-replaced (λ (q : Policy). is_same q.spec c.args.spec.now) p c.self.inside.policies.items _ _ _ c.self.invariant.policies
-          found plain c.in-Ok.ensures.ok;
+          found c.in-Ok.ensures.ok;
       states = c.self.invariant.states;
+      seq = c.self.invariant.seq;
     }

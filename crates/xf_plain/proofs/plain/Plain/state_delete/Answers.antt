@@ -7,6 +7,7 @@ use Rattle.xf_plain.proofs.plain.Plain.state_delete.Goals as goal
 pub invariant_of-self : goal.invariant_of-self
 invariant_of-self c = record {
   policies = c.self.invariant.policies;
+  seq = c.self.invariant.seq;
   states =
       kept-without (has_sid c.in-Some.old.now.sid) c.self.inside.states.states _ _ _ c.self.invariant.states
       (ap (λ (t : TableView). t.states) c.remove.ensures);

@@ -7,6 +7,7 @@ use Rattle.xf_plain.proofs.plain.Plain.state_deleteall.Goals as goal
 pub invariant_of-self : goal.invariant_of-self
 invariant_of-self c = record {
   policies = c.self.invariant.policies;
+  seq = c.self.invariant.seq;
   states =
       kept-without (state_meets c.args.filter.now) c.self.inside.states.states _ _ _ c.self.invariant.states
       (ap (λ (t : TableView). t.states) c.remove_admitted.ensures);

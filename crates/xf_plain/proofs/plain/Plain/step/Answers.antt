@@ -2,7 +2,7 @@ use Rattle.std.specs.Prelude.{find}
 use Rattle.xf_types.specs.declared.call.Reply.TheVariants.{NoState, Stale}
 use Rattle.xf_types.specs.StateList.{has_sid, latest_match}
 use Rattle.xf_types.specs.TrafficRules.{id_of_packet, output_at, packet_at}
-use Rattle.xf_plain.proofs.Growing.{GrowsLittle-added, GrowsLittle-updated, GrowsLittle-deleted, GrowsLittle-state_updated}
+use Rattle.xf_plain.proofs.Growing.{GrowsLittle-added, GrowsLittle-updated, GrowsLittle-deleted, GrowsLittle-state_updated, GrowsLittle-flow}
 use Rattle.xf_plain.proofs.Packets.{grows-found}
 use Rattle.xf_plain.proofs.plain.Plain.step.Goals as goal
 
@@ -35,3 +35,7 @@ pub returns-in-Output-clause-grows : goal.returns-in-Output-clause-grows
 returns-in-Output-clause-grows c =
     grows-found c.args.self.now c.output.new.self (output_at c.in-Output.len) Stale c.output.result
     (find (has_sid c.in-Output.sid) c.args.self.now.shown.states) c.output.ensures.answer
+
+pub returns-in-Flow-clause-grows : goal.returns-in-Flow-clause-grows
+returns-in-Flow-clause-grows c =
+    GrowsLittle-flow c.args.self.now c.flow.new.self c.in-Flow.flow c.flow.result c.flow.ensures.answer c.flow.ensures.memory

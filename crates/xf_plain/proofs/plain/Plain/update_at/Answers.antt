@@ -6,6 +6,7 @@ use Rattle.xf_plain.proofs.plain.Plain.update_at.Goals as goal
 pub invariant_of-self : goal.invariant_of-self
 invariant_of-self c = record {
   policies = c.self.invariant.policies;
+  seq = c.self.invariant.seq;
   states =
       kept-refreshed c.args.spec.now c.self.inside.states c.refresh.new.self c.args.place _ _
       (subst (λ (m : Machine). c.args.place < length m.shown.states) (sym c.self.view_is) c.requires.within)
