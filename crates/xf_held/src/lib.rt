@@ -1,4 +1,4 @@
-//! One state with what it keeps for itself: what names it, what its limits say, and what a packet does to it.
+//! One state with what it keeps for itself: what names it, what its limits say, and what a packet or an output does to it.
 #![tactic(auto)]
 
 mod aging;

@@ -5,7 +5,7 @@ use std::process::Abort;
 use std::test::Fail;
 use xf_life::Verdict;
 use xf_replay::{NoMemory, Window};
-use xf_types::{Addr, Limits, Mark, Mode, Packet, Proto, Reply, Sa, SaSpec};
+use xf_types::{Addr, Limits, Mark, Mode, Packet, Proto, Reply, Sa, SaSpec, Stands};
 
 fn state(limits: Limits) -> Sa {
     Sa {
@@ -64,6 +64,11 @@ fn sent(seq: u64) -> Outbound {
         seq,
         soft: false,
     })
+}
+
+// A slot's value, as one thread hands it to another.
+fn handed_on<T: Stands + Send + Drop>(value: T) -> T {
+    value
 }
 
 // A packet that is foreseen, and then comes.
