@@ -34,8 +34,16 @@ mod tests;
 #[cfg(test)]
 mod tests_bad_policies;
 #[cfg(test)]
+mod tests_bad_requests;
+#[cfg(test)]
 mod tests_bad_states;
+#[cfg(test)]
+mod tests_bad_templates;
 #[cfg(test)]
 mod tests_policies;
 #[cfg(test)]
+mod tests_requests;
+#[cfg(test)]
 mod tests_states;
+#[cfg(test)]
+mod tests_templates;
