@@ -1,5 +1,6 @@
 -- Which names, words and tables there are: the code's own tables.
 use Rattle.std.specs.Prelude.{List, []}
+use Rattle.xf_read.specs.declared.flow_tables.TheConstants as flow
 use Rattle.xf_read.specs.declared.head.Head.{Head}
 use Rattle.xf_read.specs.declared.head.Head.TheVariants as head
 use Rattle.xf_read.specs.declared.row.Args.{Args}
@@ -12,6 +13,7 @@ use Rattle.xf_read.specs.declared.row.Table.{Table}
 use Rattle.xf_read.specs.declared.row.Table.TheVariants as table
 use Rattle.xf_read.specs.declared.state_tables.TheConstants as state
 use Rattle.xf_read.specs.declared.tables.TheConstants as constant
+use Rattle.xf_read.specs.declared.template_tables.TheConstants as template
 
 -- the names of a list
 abbrev pub names_of : Names → List Name
@@ -26,8 +28,8 @@ names_of names.StateProtocols = state.STATE_PROTOCOLS
 names_of names.PacketProtocols = state.PACKET_PROTOCOLS
 names_of names.Modes = state.MODES
 names_of names.Icvs = state.ICVS
-names_of names.Levels = constant.LEVELS
-names_of names.Times = constant.TIMES
+names_of names.Levels = template.LEVELS
+names_of names.Times = flow.TIMES
 
 -- the rows of a table
 abbrev pub rows_of : Table → List Row
@@ -38,11 +40,11 @@ rows_of table.PolicyKey = constant.POLICY_KEY
 rows_of table.PolicyFilter = constant.POLICY_FILTER
 rows_of table.PolicyKind = constant.POLICY_KIND
 rows_of table.Thresholds = constant.THRESHOLDS
-rows_of table.Flow = constant.FLOW
+rows_of table.Flow = flow.FLOW
 rows_of table.Mask = constant.MASK
 rows_of table.PolicyFlags = constant.POLICY_FLAGS
 rows_of table.Limits = constant.LIMITS
-rows_of table.Template = constant.TEMPLATE
+rows_of table.Template = template.TEMPLATE
 rows_of table.Refused = constant.REFUSED
 rows_of table.StateSpec = state.STATE_SPEC
 rows_of table.StateId = state.STATE_ID
@@ -53,7 +55,7 @@ rows_of table.StateRefused = state.STATE_REFUSED
 rows_of table.Alloc = state.ALLOC
 rows_of table.AllocRefused = state.ALLOC_REFUSED
 rows_of table.Packet = state.PACKET
-rows_of table.Length = constant.LENGTH
+rows_of table.Length = flow.LENGTH
 
 -- the tables of a line's own words
 abbrev pub tables_of : Head → List Table
@@ -75,12 +77,12 @@ tables_of head.StateList = state.STATE_FILTER_TABLES
 tables_of head.StateFlush = state.STATE_FLUSH_TABLES
 tables_of head.StateCount = []
 tables_of head.AllocSpi = state.ALLOC_TABLES
-tables_of (head.Flow dir) = constant.FLOW_TABLES
-tables_of head.Send = constant.SEND_TABLES
+tables_of (head.Flow dir) = flow.FLOW_TABLES
+tables_of head.Send = flow.SEND_TABLES
 tables_of head.Packet = state.PACKET_TABLES
 tables_of head.Tick = []
 
 -- what has to come directly after a head
 abbrev pub first_of : Head → Args
-first_of head.Tick = constant.TICK
+first_of head.Tick = flow.TICK
 first_of _ = args.None

@@ -6,6 +6,7 @@ mod call;
 mod fault;
 mod fields;
 mod flow;
+mod flow_tables;
 mod head;
 mod identity;
 mod keyword;
@@ -22,6 +23,7 @@ mod state;
 mod state_tables;
 mod tables;
 mod template;
+mod template_tables;
 mod thresholds;
 mod tick;
 mod values;
@@ -34,8 +36,16 @@ mod tests;
 #[cfg(test)]
 mod tests_bad_policies;
 #[cfg(test)]
+mod tests_bad_requests;
+#[cfg(test)]
 mod tests_bad_states;
+#[cfg(test)]
+mod tests_bad_templates;
 #[cfg(test)]
 mod tests_policies;
 #[cfg(test)]
+mod tests_requests;
+#[cfg(test)]
 mod tests_states;
+#[cfg(test)]
+mod tests_templates;

@@ -3,7 +3,9 @@ ghost use Rattle.std.specs.Prelude.{◌≡◌};
 ghost use Rattle.xf_read.specs.Calls as rule;
 
 use crate::limits::limits_of;
-use crate::lookup::{OWN, action_in, dir_in, has_any, prefix_at, ptype_in, u8_at, u32_at, value_at};
+use crate::lookup::{
+    OWN, action_in, dir_in, has_any, prefix_at, ptype_in, u8_at, u32_at, value_at,
+};
 use crate::mark::mark_of;
 use crate::row::{Field, Slot};
 use crate::selector::{

@@ -2,6 +2,7 @@
 ghost use Rattle.std.specs.Prelude.{◌≡◌};
 ghost use Rattle.xf_read.specs.Tables.{names_of, rows_of, tables_of, first_of};
 
+use crate::flow_tables::{FLOW, FLOW_TABLES, LENGTH, SEND_TABLES, TICK, TIMES};
 use crate::head::Head;
 use crate::keyword::Keyword;
 use crate::row::{Arg, Args, Meaning, Name, Names, Row, Slot, Table};
@@ -10,7 +11,8 @@ use crate::state_tables::{
     STATE_FILTER, STATE_FILTER_TABLES, STATE_FLAGS, STATE_FLUSH_TABLES, STATE_ID, STATE_ID_TABLES,
     STATE_KIND, STATE_PROTOCOLS, STATE_REFUSED, STATE_SPEC, STATE_SPEC_TABLES,
 };
-use xf_types::{Action, Dir, Level, Ptype, Reason};
+use crate::template_tables::{LEVELS, TEMPLATE};
+use xf_types::{Action, Dir, Ptype, Reason};
 
 const U32: u32 = u32::MAX;
 
@@ -56,15 +58,6 @@ pub(crate) static ANYS: [Name; 3] = [
     Name::Means(Keyword::All, Meaning::Any),
     Name::Means(Keyword::Default, Meaning::Any),
 ];
-
-// Whether a template without a state is skipped.
-pub(crate) static LEVELS: [Name; 2] = [
-    Name::Means(Keyword::Required, Meaning::Level(Level::Required)),
-    Name::Means(Keyword::Use, Meaning::Level(Level::Use)),
-];
-
-// The time that the clock tells.
-pub(crate) static TIMES: [Name; 1] = [Name::Means(Keyword::Now, Meaning::Now)];
 
 // ICMP types and codes stand in the places of ports. One word follows another, so that those behind `sel` stay its own.
 pub(crate) static SELECTOR: [Row; 7] = [
@@ -153,45 +146,6 @@ pub(crate) static POLICY_SPEC: [Row; 10] = [
     ),
 ];
 
-// What a template has. One word follows another, so that those behind `tmpl` stay its own.
-pub(crate) static TEMPLATE: [Row; 7] = [
-    Row::Once(
-        Keyword::Src,
-        Args::One(Arg::Addr(Slot::Src)),
-        Table::Template,
-    ),
-    Row::Once(
-        Keyword::Dst,
-        Args::One(Arg::Addr(Slot::Dst)),
-        Table::Template,
-    ),
-    Row::Once(
-        Keyword::Proto,
-        Args::One(Arg::Name(Slot::Proto, Names::StateProtocols)),
-        Table::Template,
-    ),
-    Row::Once(
-        Keyword::Spi,
-        Args::One(Arg::U32(Slot::Spi, 0, U32)),
-        Table::Template,
-    ),
-    Row::Once(
-        Keyword::Mode,
-        Args::One(Arg::Name(Slot::Mode, Names::Modes)),
-        Table::Template,
-    ),
-    Row::Once(
-        Keyword::Reqid,
-        Args::One(Arg::U32(Slot::Reqid, 0, U32)),
-        Table::Template,
-    ),
-    Row::Once(
-        Keyword::Level,
-        Args::One(Arg::Name(Slot::Level, Names::Levels)),
-        Table::Template,
-    ),
-];
-
 // What names a policy beside its selector.
 pub(crate) static POLICY_KEY: [Row; 5] = [
     Row::Once(
@@ -274,57 +228,6 @@ pub(crate) static THRESHOLDS: [Row; 2] = [
         Table::None,
     ),
 ];
-
-// What a flow has: its direction stands in the head.
-pub(crate) static FLOW: [Row; 9] = [
-    Row::Once(Keyword::Src, Args::One(Arg::Addr(Slot::Src)), Table::None),
-    Row::Once(Keyword::Dst, Args::One(Arg::Addr(Slot::Dst)), Table::None),
-    Row::Once(
-        Keyword::Proto,
-        Args::One(Arg::NameOrU8(Slot::Proto, Names::Protocols, Names::None)),
-        Table::None,
-    ),
-    Row::Once(
-        Keyword::Sport,
-        Args::One(Arg::U16(Slot::SourcePort, 0, 65535)),
-        Table::None,
-    ),
-    Row::Once(
-        Keyword::Dport,
-        Args::One(Arg::U16(Slot::DestPort, 0, 65535)),
-        Table::None,
-    ),
-    Row::Once(
-        Keyword::Type,
-        Args::One(Arg::U16(Slot::IcmpType, 0, 255)),
-        Table::None,
-    ),
-    Row::Once(
-        Keyword::Code,
-        Args::One(Arg::U16(Slot::IcmpCode, 0, 255)),
-        Table::None,
-    ),
-    Row::Once(
-        Keyword::Mark,
-        Args::One(Arg::U32(Slot::Mark, 0, U32)),
-        Table::None,
-    ),
-    Row::Once(
-        Keyword::IfId,
-        Args::One(Arg::U32(Slot::IfId, 0, U32)),
-        Table::None,
-    ),
-];
-
-// How many bytes each packet has that is sent.
-pub(crate) static LENGTH: [Row; 1] = [Row::Once(
-    Keyword::Len,
-    Args::One(Arg::U32(Slot::Len, 0, U32)),
-    Table::None,
-)];
-
-// What stands directly after `tick`.
-pub(crate) static TICK: Args = Args::One(Arg::NameOrU64(Slot::Time, Names::Times));
 
 // What may stand directly after a mark.
 pub(crate) static MASK: [Row; 1] = [Row::Once(
@@ -410,10 +313,6 @@ pub(crate) static FILTER_TABLES: [Table; 3] = [
 pub(crate) static FLUSH_TABLES: [Table; 2] = [Table::PolicyKind, Table::Refused];
 
 pub(crate) static SET_TABLES: [Table; 2] = [Table::Thresholds, Table::Refused];
-
-pub(crate) static FLOW_TABLES: [Table; 1] = [Table::Flow];
-
-pub(crate) static SEND_TABLES: [Table; 2] = [Table::Flow, Table::Length];
 
 /// The names of a list.
 pub(crate) fn names_in(names: Names) -> &'static [Name]

@@ -9,7 +9,7 @@ use xf_types::{
 };
 
 // A policy whose other words have their defaults.
-fn spec(dir: Dir, sel: Selector) -> PolicySpec {
+pub(crate) fn spec(dir: Dir, sel: Selector) -> PolicySpec {
     PolicySpec {
         dir,
         ptype: Ptype::Main,
@@ -40,7 +40,7 @@ fn open_filter() -> PolicyFilter {
     }
 }
 
-fn flow(dir: Dir, src: Addr, dst: Addr) -> Flow {
+pub(crate) fn flow(dir: Dir, src: Addr, dst: Addr) -> Flow {
     Flow {
         dir,
         src,

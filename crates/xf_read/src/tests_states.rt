@@ -12,7 +12,7 @@ const HERE: Addr = Addr::V4(0xc0000201);
 const THERE: Addr = Addr::V4(0xc0000202);
 
 // A state whose other words have their defaults.
-fn state(dst: Addr, proto: Proto, spi: u32) -> SaSpec {
+pub(crate) fn state(dst: Addr, proto: Proto, spi: u32) -> SaSpec {
     counted(dst, proto, spi, 0, 0, 0)
 }
 
@@ -47,7 +47,7 @@ fn there() -> SaSpec {
     state(THERE, Proto::Esp, 0x1000)
 }
 
-fn with_selector(sel: Selector) -> SaSpec {
+pub(crate) fn with_selector(sel: Selector) -> SaSpec {
     let mut spec = there();
     spec.sel = Some(sel);
     spec

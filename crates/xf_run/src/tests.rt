@@ -87,7 +87,7 @@ fn run<R: Threads + Wait>(
 }
 
 /// Each reason that today's lines have, but for the two of sizes; of two faults the first decides.
-const BAD: [BadRow<'static>; 46] = [
+const BAD: [BadRow<'static>; 47] = [
     // a line's own faults, in their order
     (
         b"xfrm policy count \x07 'x\\",
@@ -121,20 +121,16 @@ const BAD: [BadRow<'static>; 46] = [
     ),
     (
         b"xfrm state allocspi colour",
-        b"bad line 1: unsupported\n",
-        Reason::Unsupported,
+        b"bad line 1: word\n",
+        Reason::Word,
     ),
     (
         b"send src 10.1.2",
-        b"bad line 1: unsupported\n",
-        Reason::Unsupported,
+        b"bad line 1: address\n",
+        Reason::Address,
     ),
     (b"packet colour", b"bad line 1: word\n", Reason::Word),
-    (
-        b"tick 01",
-        b"bad line 1: unsupported\n",
-        Reason::Unsupported,
-    ),
+    (b"tick 01", b"bad line 1: number\n", Reason::Number),
     (
         b"worker 16",
         b"bad line 1: unsupported\n",
@@ -177,8 +173,13 @@ const BAD: [BadRow<'static>; 46] = [
     ),
     (
         b"xfrm policy add dir in tmpl colour",
-        b"bad line 1: unsupported\n",
-        Reason::Unsupported,
+        b"bad line 1: word\n",
+        Reason::Word,
+    ),
+    (
+        b"xfrm policy add tmpl tmpl tmpl tmpl tmpl tmpl tmpl colour",
+        b"bad line 1: templates\n",
+        Reason::Templates,
     ),
     (
         b"xfrm policy add dev priority 01",
@@ -192,8 +193,8 @@ const BAD: [BadRow<'static>; 46] = [
     ),
     (
         b"xfrm state add limit colour",
-        b"bad line 1: unsupported\n",
-        Reason::Unsupported,
+        b"bad line 1: word\n",
+        Reason::Word,
     ),
     (
         b"xfrm state add dst 192.0.2.2 proto esp spi 0x1000 flag esn",
