@@ -35,10 +35,10 @@ abbrev pub is_list_line : Line → Bool
 is_list_line (One n c) = is_list c
 is_list_line (Send n flow len) = false
 
--- behind these call lines there is no more room in the phase for the call
-abbrev pub is_over : List Line → Call → Bool
-is_over calls c =
-    nat_le call_limit (length calls) || (is_list c && nat_le list_limit (count_by is_list_line calls))
+-- behind these call lines there is no more room in the phase for the line
+abbrev pub is_over : List Line → Line → Bool
+is_over calls l =
+    nat_le call_limit (length calls) || (is_list_line l && nat_le list_limit (count_by is_list_line calls))
 
 -- the line's own fault, or what it asks for. That it is long comes first, and that it passes the input's limit next
 abbrev pub judged : Bool → Result Item Reason → Result Item Reason
@@ -48,21 +48,25 @@ judged true (Err other) = Err reason.Input
 judged false (Ok asked) = Ok asked
 judged false (Err other) = Err other
 
--- the call lines behind what a line asks for: its call goes behind those so far
-abbrev pub with_item : List Line → ℕ → Item → Result (List Line) BadLine
-with_item calls n item.Nothing = Ok calls
-with_item calls n (item.One c) =
-    if not (is_built c) then Err (record { line = n; reason = reason.Unsupported })
-    else (if is_over calls c then Err (record { line = n; reason = reason.Phase }) else Ok (calls ++ One n c ∷ []))
-with_item calls n (item.Worker worker) = Err (record { line = n; reason = reason.Unsupported })
-with_item calls n item.Sync = Err (record { line = n; reason = reason.Unsupported })
-with_item calls n item.TickNow = Err (record { line = n; reason = reason.Unsupported })
-with_item calls n (item.Send flow len) = Err (record { line = n; reason = reason.Unsupported })
+-- line n is a call line, which goes behind those so far
+abbrev pub with_call_line : List Line → ℕ → Line → Result (List Line) BadLine
+with_call_line calls n l =
+    if is_over calls l then Err (record { line = n; reason = reason.Phase }) else Ok (calls ++ l ∷ [])
+
+-- the call lines behind what a line asks for, where the clock says this time
+abbrev pub with_item : ℕ → List Line → ℕ → Item → Result (List Line) BadLine
+with_item now calls n item.Nothing = Ok calls
+with_item now calls n (item.One c) =
+    if not (is_built c) then Err (record { line = n; reason = reason.Unsupported }) else with_call_line calls n (One n c)
+with_item now calls n (item.Worker worker) = Err (record { line = n; reason = reason.Unsupported })
+with_item now calls n item.Sync = Err (record { line = n; reason = reason.Unsupported })
+with_item now calls n item.TickNow = with_call_line calls n (One n (call.Tick now))
+with_item now calls n (item.Send flow len) = Err (record { line = n; reason = reason.Unsupported })
 
 -- the call lines behind a line
-abbrev pub with_line : List Line → ℕ → Result Item Reason → Result (List Line) BadLine
-with_line calls n (Err why) = Err (record { line = n; reason = why })
-with_line calls n (Ok asked) = with_item calls n asked
+abbrev pub with_line : ℕ → List Line → ℕ → Result Item Reason → Result (List Line) BadLine
+with_line now calls n (Err why) = Err (record { line = n; reason = why })
+with_line now calls n (Ok asked) = with_item now calls n asked
 
 -- a bad line ends the batch
 abbrev pub unless_bad : Result (List Line) BadLine → (List Line → Result (List Line) BadLine) → Result (List Line) BadLine
@@ -70,12 +74,12 @@ unless_bad (Err bad) rest = Err bad
 unless_bad (Ok calls) rest = rest calls
 
 -- the call lines so far, and those of the logical lines from physical line n on, behind so many bytes: the first bad line decides
-abbrev pub batch_from : List Line → ℕ → ℕ → List (List ℕ) → Result (List Line) BadLine
-batch_from calls n before [] = Ok calls
-batch_from calls n before (line ∷ lines) =
-    unless_bad (with_line calls n (judged (nat_lt limit (before + length line)) (line_item line)))
-    (λ more. batch_from more (n + physical_lines line) (before + length line) lines)
+abbrev pub batch_from : ℕ → List Line → ℕ → ℕ → List (List ℕ) → Result (List Line) BadLine
+batch_from now calls n before [] = Ok calls
+batch_from now calls n before (line ∷ lines) =
+    unless_bad (with_line now calls n (judged (nat_lt limit (before + length line)) (line_item line)))
+    (λ more. batch_from now more (n + physical_lines line) (before + length line) lines)
 
--- no byte past the first one that is too many is looked at, and the line that holds this one is bad
-unfoldable pub batch_of : List ℕ → Result (List Line) BadLine
-batch_of input = batch_from [] 1 0 (lines_of (take (limit + 1) input))
+-- no byte past the first one that is too many is looked at, and the line that holds this one is bad. `now` is what the clock says
+unfoldable pub batch_of : ℕ → List ℕ → Result (List Line) BadLine
+batch_of now input = batch_from now [] 1 0 (lines_of (take (limit + 1) input))

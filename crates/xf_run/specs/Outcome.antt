@@ -1,6 +1,7 @@
 -- What each status of a run says.
-use Rattle.std.specs.Prelude.{◌≡◌, ◌⊎◌, ℕ, Bool, true, false, List, [], ◌∷◌, ◌++◌, Option, Result, Ok, Err}
+use Rattle.std.specs.Prelude.{◌≡◌, ◌⊎◌, ℕ, ◌<◌, ◌^◌, Bool, true, false, List, [], ◌∷◌, ◌++◌, Option, IfSome, Result, Ok, Err}
 use Rattle.std.specs.Io.KnownBytes.{Appends}
+use Rattle.xf_io.specs.Seconds.{ClockGives}
 use Rattle.xf_types.specs.declared.call.Receipt.{Receipt}
 use Rattle.xf_types.specs.declared.status.Status.{Status}
 use Rattle.xf_types.specs.declared.status.Status.TheVariants as status
@@ -65,16 +66,27 @@ abbrev pub MemoryRanOut : Result (List Line) BadLine → Option (List ℕ) → O
 MemoryRanOut (Ok lines) old new = IsCutBetween lines old new
 MemoryRanOut (Err bad) old new = Appends old new []
 
--- by the bytes of the input, what the status says of the batch and of the text before and after
-abbrev pub Outcome : Status → List ℕ → Option (List ℕ) → Option (List ℕ) → Type 0
-Outcome status.Done input old new = (lines : List Line) × (batch_of input ≡ Ok lines) × Answered lines false old new
-Outcome status.Refusals input old new = (lines : List Line) × (batch_of input ≡ Ok lines) × Answered lines true old new
-Outcome status.Usage input old new = ⊥
-Outcome (status.BadLine line reason) input old new =
-    (batch_of input ≡ Err (record { line = line; reason = reason })) × Appends old new (bad_line_text line reason)
-Outcome status.ReadFault input old new = Appends old new []
-Outcome status.WriteFault input old new = WriteFailed (batch_of input) old new
-Outcome status.NoMemory input old new = MemoryRanOut (batch_of input) old new
+-- by what the clock says and the bytes of the input, what the status says of the batch and of the text before and after
+abbrev pub Outcome : Status → ℕ → List ℕ → Option (List ℕ) → Option (List ℕ) → Type 0
+Outcome status.Done now input old new = (lines : List Line) × (batch_of now input ≡ Ok lines) × Answered lines false old new
+Outcome status.Refusals now input old new = (lines : List Line) × (batch_of now input ≡ Ok lines) × Answered lines true old new
+Outcome status.Usage now input old new = ⊥
+Outcome (status.BadLine line reason) now input old new =
+    (batch_of now input ≡ Err (record { line = line; reason = reason })) × Appends old new (bad_line_text line reason)
+Outcome status.ReadFault now input old new = Appends old new []
+Outcome status.WriteFault now input old new = WriteFailed (batch_of now input) old new
+Outcome status.NoMemory now input old new = MemoryRanOut (batch_of now input) old new
+
+-- the same, where the source tells its bytes
+abbrev pub OutcomeOf : Status → ℕ → Option (List ℕ) → Option (List ℕ) → Option (List ℕ) → Type 0
+OutcomeOf s now left old new = IfSome left (λ input. Outcome s now input old new)
+
+-- the clock was asked once, and by its answer, a number of 64 bits, the outcome is this; a clock that tells its answers gave the next one
+pub record IsOutcome (s : Status) (coming later : Option (ℕ → ℕ)) (left old new : Option (List ℕ)) : Type 0 where
+  pub now : ℕ
+  pub in_range : now < 2 ^ 64
+  pub asked : ClockGives coming later now
+  pub outcome : OutcomeOf s now left old new
 
 -- all was read and answered
 abbrev pub IsEnd : Status → Type 0

@@ -3,7 +3,7 @@ ghost use Rattle.std.specs.Prelude.{◌≡◌, ◌+◌, ◌≤◌, [], ◌∷◌
 ghost use Rattle.xf_types.specs.Batch.{One};
 ghost use Rattle.xf_plain.specs.Built.{IsBuilt};
 ghost use Rattle.xf_read.specs.Items.{line_item};
-ghost use Rattle.xf_run.specs.Batch.{is_list, is_list_line, is_over, judged, with_item, batch_of, limit};
+ghost use Rattle.xf_run.specs.Batch.{is_list, is_list_line, is_over, judged, with_call_line, with_item, batch_of, limit};
 ghost use Rattle.xf_run.specs.Reading.{GivesJudged, GivesLines, GivesBatch};
 ghost use Rattle.xf_run.specs.Shown.{line_of, lines_shown};
 ghost use Rattle.xf_run.specs.declared.batch.BatchFault.TheVariants.{Memory as BatchMemory};
@@ -68,11 +68,11 @@ fn count_lists(lines: &[CallLine]) -> usize
     lines.iter().filter(|l| lists_line(l)).count()
 }
 
-/// Whether the phase has no more room for the call.
-fn is_full(lines: &[CallLine], call: &Call) -> bool
-    ensures { result ≡ is_over (lines_shown lines.now) call.now }
+/// Whether the phase has no more room for the line.
+fn is_full(lines: &[CallLine], line: &CallLine) -> bool
+    ensures { result ≡ is_over (lines_shown lines.now) (line_of line.now) }
 {
-    lines.len() >= CALLS || lists(call) && count_lists(lines) >= LISTS
+    lines.len() >= CALLS || lists_line(line) && count_lists(lines) >= LISTS
 }
 
 /// What a line asks for, or its fault. That the line is long comes before that it passes the input's limit.
@@ -99,16 +99,18 @@ fn bad(line: u64, reason: Reason) -> BatchFault
     BatchFault::Bad(BadLine { line, reason })
 }
 
-/// Puts a call line at the end.
-fn push_line(lines: &mut Vec<CallLine>, line: u64, call: Call) -> Result<(), BatchFault>
-    requires built { IsBuilt call }
+/// Puts a call line at the end, or refuses it.
+fn push_line(lines: &mut Vec<CallLine>, line: CallLine) -> Result<(), BatchFault>
+    requires built { IsBuilt line.call }
     requires all_built { All (λ l. IsBuilt l.call) lines.old.items }
-    ensures ok { OnOk result (lines_shown lines.new.items ≡ lines_shown lines.old.items ++ One line call ∷ []) }
-    ensures count { OnOk result (length lines.new.items ≡ length lines.old.items + 1) }
+    ensures lines { GivesLines result lines.new (with_call_line (lines_shown lines.old.items) line.line (line_of line)) }
+    ensures count { OnOk result (length lines.new.items ≤ length lines.old.items + 1) }
     ensures built { All (λ l. IsBuilt l.call) lines.new.items }
-    ensures memory { IfErr result (λ e. e ≡ BatchMemory) }
 {
-    lines.push(CallLine { line, call })?;
+    if is_full(lines, &line) {
+        return Err(bad(line.line, Reason::Phase));
+    }
+    lines.push(line)?;
     Ok(())
 }
 
@@ -125,32 +127,28 @@ fn front(input: &[u8]) -> &[u8]
     }
 }
 
-/// Puts what a line asks for behind the call lines so far, or refuses the line.
-fn put_item(lines: &mut Vec<CallLine>, number: u64, item: Item) -> Result<(), BatchFault>
+/// Puts what a line asks for behind the call lines so far, or refuses the line. `now` is what the clock says.
+fn put_item(lines: &mut Vec<CallLine>, line: u64, item: Item, now: u64) -> Result<(), BatchFault>
     requires { All (λ l. IsBuilt l.call) lines.old.items }
-    ensures item { GivesLines result lines.new (with_item (lines_shown lines.old.items) number item) }
+    ensures item { GivesLines result lines.new (with_item now (lines_shown lines.old.items) line item) }
     ensures count { OnOk result (length lines.new.items ≤ length lines.old.items + 1) }
     ensures built { All (λ l. IsBuilt l.call) lines.new.items }
 {
     match item {
         Item::Nothing => Ok(()),
-        Item::One(call) => {
-            if !is_built(&call) {
-                return Err(bad(number, Reason::Unsupported));
-            }
-            if is_full(lines, &call) {
-                return Err(bad(number, Reason::Phase));
-            }
-            push_line(lines, number, call)
+        Item::One(call) if is_built(&call) => push_line(lines, CallLine { line, call }),
+        Item::TickNow => {
+            let call = Call::Tick(now);
+            push_line(lines, CallLine { line, call })
         }
-        _ => Err(bad(number, Reason::Unsupported)),
+        _ => Err(bad(line, Reason::Unsupported)),
     }
 }
 
-/// The call lines of an input, or its first bad line.
+/// The call lines of an input, or its first bad line. `now` is what the clock says.
 #[tactic(auto, unfolding(crate::specs::Batch::batch_of))]
-pub fn read_batch(alloc: Global, input: &[u8]) -> Result<Vec<CallLine>, BatchFault>
-    ensures batch { GivesBatch result (batch_of input.now) }
+pub fn read_batch(alloc: Global, input: &[u8], now: u64) -> Result<Vec<CallLine>, BatchFault>
+    ensures batch { GivesBatch result (batch_of now input.now) }
     ensures within { OnOk result (length input.now ≤ limit) }
     ensures count { IfOk result (λ v. length v.items ≤ limit) }
     ensures built { IfOk result (λ v. All (λ l. IsBuilt l.call) v.items) }
@@ -167,7 +165,7 @@ pub fn read_batch(alloc: Global, input: &[u8]) -> Result<Vec<CallLine>, BatchFau
         let (line, after) = split_line(rest);
         let over = before + line.len() > LIMIT;
         let item = judge(&mut reader, line, number, over)?;
-        put_item(&mut lines, number, item)?;
+        put_item(&mut lines, number, item, now)?;
         number += count_physical(line) as u64;
         before += line.len();
         rest = after;

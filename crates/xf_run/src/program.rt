@@ -1,10 +1,10 @@
 //! All that the program does.
-ghost use Rattle.std.specs.Prelude.{◌≡◌, IfSome};
+ghost use Rattle.std.specs.Prelude.{◌≡◌};
 ghost use Rattle.std.specs.Bool.{OnTrue, OnFalse};
 ghost use Rattle.std.specs.Io.KnownBytes.{IsAtEnd};
 ghost use Rattle.xf_io.specs.Causes.{Rose};
 ghost use Rattle.xf_run.specs.Command.{is_command, Refuses};
-ghost use Rattle.xf_run.specs.Outcome.{Outcome, IsEnd};
+ghost use Rattle.xf_run.specs.Outcome.{IsOutcome, IsEnd};
 
 use crate::output::write_line;
 use crate::run::run_one;
@@ -50,9 +50,9 @@ pub fn top<R: Threads + Wait, S: Source, K: Sink, C: Clock, G: Gate>(
 ) -> Status
     // Words that are no command are refused.
     ensures usage { OnFalse (is_command words.now) (Refuses result (K.text out.old) (K.text out.new)) }
-    // What the status says of the batch and of the text, where the source tells its bytes.
+    // What the status says of the batch and of the text by the clock's answer, where the source tells its bytes.
     ensures outcome { OnTrue (is_command words.now)
-        (IfSome (S.left src.old) (λ input. Outcome result input (K.text out.old) (K.text out.new))) }
+        (IsOutcome result (C.coming clock.old) (C.coming clock.new) (S.left src.old) (K.text out.old) (K.text out.new)) }
     // Statuses 0 and 1 come only where the input was read to its end.
     ensures end { IsEnd result → IsAtEnd (S.left src.new) }
     // Faults come only where the count of the object that was handed in rose.

@@ -1,10 +1,10 @@
 //! A batch on one thread.
-ghost use Rattle.std.specs.Prelude.{◌≡◌, ◌≤◌, IfSome, All, length};
+ghost use Rattle.std.specs.Prelude.{◌≡◌, ◌≤◌, All, length};
 ghost use Rattle.std.specs.Io.KnownBytes.{IsAtEnd};
 ghost use Rattle.xf_io.specs.Causes.{Rose};
 ghost use Rattle.xf_plain.specs.Built.{IsBuilt};
 ghost use Rattle.xf_run.specs.Batch.{limit};
-ghost use Rattle.xf_run.specs.Outcome.{Outcome, IsEnd};
+ghost use Rattle.xf_run.specs.Outcome.{IsOutcome, IsEnd};
 ghost use Rattle.xf_run.specs.Progress.{Ends, Reports};
 
 use crate::answer::{AnswerFault, answer};
@@ -64,27 +64,28 @@ fn report<K: Sink>(alloc: Global, bad: BadLine, out: &mut K) -> Status
     }
 }
 
-/// Runs the batch of the source on one thread. The clock isn't asked yet.
+/// Runs the batch of the source on one thread. The clock is asked once, at the start.
 pub fn run_one<S: Source, K: Sink, C: Clock>(
     alloc: Global,
     src: &mut S,
     out: &mut K,
-    _clock: &mut C,
+    clock: &mut C,
 ) -> Status
-    // What the status says of the batch and of the text, where the source tells its bytes.
-    ensures outcome { IfSome (S.left src.old) (λ input. Outcome result input (K.text out.old) (K.text out.new)) }
+    // What the status says of the batch and of the text by the clock's answer, where the source tells its bytes.
+    ensures outcome { IsOutcome result (C.coming clock.old) (C.coming clock.new) (S.left src.old) (K.text out.old) (K.text out.new) }
     // Statuses 0 and 1 come only where the input was read to its end.
     ensures end { IsEnd result → IsAtEnd (S.left src.new) }
     // Faults come only where the count of the object that was handed in rose.
     ensures read_fault { result ≡ Status.ReadFault → Rose (S.faults src.old) (S.faults src.new) }
     ensures write_fault { result ≡ Status.WriteFault → Rose (K.faults out.old) (K.faults out.new) }
 {
+    let now = clock.now();
     let input = match read_input(alloc, src) {
         Ok(input) => input,
         Err(InputFault::Memory) => return Status::NoMemory,
         Err(InputFault::Read) => return Status::ReadFault,
     };
-    match read_batch(alloc, &input) {
+    match read_batch(alloc, &input, now) {
         Ok(lines) => run_lines(alloc, &lines, out),
         Err(BatchFault::Memory) => Status::NoMemory,
         Err(BatchFault::Bad(bad)) => report(alloc, bad, out),

@@ -7,7 +7,7 @@ use Rattle.xf_run.proofs.batch.read_batch.Given as goal
 
 abbrev pub invariant-reading : goal.invariant-reading
 invariant-reading l = record {
-  so_far : batch_from (lines_shown l.lines.items) l.number l.before (lines_of l.rest) ≡ batch_from [] 1 0 (lines_of (take (limit + 1) l.input));
+  so_far : batch_from l.now (lines_shown l.lines.items) l.number l.before (lines_of l.rest) ≡ batch_from l.now [] 1 0 (lines_of (take (limit + 1) l.input));
   count : l.before + length l.rest ≡ min (length l.input) (limit + 1);
   within : l.before ≤ limit;
   number : l.number ≤ l.before + 1;
