@@ -1,14 +1,15 @@
 //! What no clause says: that a step succeeds where there is memory.
 use super::*;
+use arrayvec::ArrayVec;
 use std::process::Abort;
 use std::test::Fail;
 use xf_types::{
-    Action, Addr, Call, Dir, Limits, Mark, Mode, Packet, PolicySpec, Prefix, Proto, Ptype, Reply,
-    SaFilter, SaSpec, Selector, Templates,
+    Action, Addr, Call, Dir, Event, Flow, Limits, Mark, Mode, Packet, PolicySpec, Prefix, Proto,
+    Ptype, Reply, SaFilter, SaSpec, Selector, Template, Templates,
 };
 
-fn policy() -> Call {
-    Call::PolicyAdd(PolicySpec {
+fn policy() -> PolicySpec {
+    PolicySpec {
         dir: Dir::Out,
         ptype: Ptype::Main,
         sel: Selector {
@@ -25,7 +26,7 @@ fn policy() -> Call {
         index: 0,
         limits: Limits::none(),
         templates: Templates::none(),
-    })
+    }
 }
 
 fn spec() -> SaSpec {
@@ -83,7 +84,10 @@ fn reply(rt: &impl Abort, plain: &mut Plain, call: &Call) -> Reply {
 fn first_policy_has_index_nine(rt: HostRuntime) -> Result<(), Fail> {
     let alloc = rt.alloc();
     for mut plain in [Plain::new(alloc)?, Plain::sized(alloc, 1, 1)?] {
-        assert_eq!(rt; reply(&rt, &mut plain, &policy()), Reply::DoneIndex(9));
+        assert_eq!(rt;
+            reply(&rt, &mut plain, &Call::PolicyAdd(policy())),
+            Reply::DoneIndex(9)
+        );
     }
     Ok(())
 }
@@ -109,6 +113,66 @@ fn state_is_added_used_updated_and_listed(rt: HostRuntime) -> Result<(), Fail> {
     match reply(&rt, &mut plain, &every_state()) {
         Reply::StateList(states) => assert_eq!(rt; states.as_slice().len(), 1),
         other => assert!(rt; false, "{other:?} is no list"),
+    }
+    Ok(())
+}
+
+// A policy whose flows want a state of ESP.
+fn policy_with_template() -> PolicySpec {
+    let mut items = ArrayVec::new();
+    items.push(Template::default());
+    let mut spec = policy();
+    spec.templates = Templates { items };
+    spec
+}
+
+fn flow() -> Flow {
+    Flow {
+        dir: Dir::Out,
+        src: Addr::V4(0x0a00_0001),
+        dst: Addr::V4(0xc000_0202),
+        proto: 0,
+        sport: 0,
+        dport: 0,
+        mark: 0,
+        if_id: 0,
+    }
+}
+
+#[test]
+fn flow_asks_for_a_state_and_waits_for_it(rt: HostRuntime) -> Result<(), Fail> {
+    let mut plain = Plain::new(rt.alloc())?;
+    for (call, answer) in [
+        (Call::PolicyAdd(policy_with_template()), Reply::DoneIndex(9)),
+        (
+            Call::TryFlow(flow()),
+            Reply::Wanting {
+                index: 9,
+                template: 0,
+            },
+        ),
+        (Call::Flow(flow()), Reply::Acquire(1)),
+        (Call::Flow(flow()), Reply::Waiting(1)),
+        (Call::StateAdd(spec()), Reply::DoneSid(2)),
+        (
+            Call::Output { sid: 2, len: 100 },
+            Reply::Sent {
+                proto: Proto::Esp,
+                spi: 0x1000,
+                seq: 1,
+                soft: false,
+            },
+        ),
+        (Call::Output { sid: 7, len: 100 }, Reply::Stale),
+    ] {
+        assert_eq!(rt; reply(&rt, &mut plain, &call), answer);
+    }
+    match reply(&rt, &mut plain, &Call::Tick(30)) {
+        Reply::Ticked { now, events } => {
+            assert_eq!(rt; now, 30);
+            assert_eq!(rt; events.as_slice(), [Event::StateExpired(1)].as_slice());
+        }
+        other => assert!(rt; false, "{other:?} is no tick"),
     }
     Ok(())
 }
