@@ -1,4 +1,4 @@
-use Rattle.std.proofs.Common.{◌≡◌, ap, ◌∙◌}
+use Rattle.std.proofs.Common.{ap, ◌∙◌}
 use Rattle.std.specs.Prelude.{find}
 use Rattle.xf_types.specs.declared.call.Reply.TheVariants.{Stale}
 use Rattle.xf_types.specs.Machine.{Machine}
