@@ -89,10 +89,10 @@ listed-passed test hs t i h s old is_t within at is fails so =
 
 -- ---- the first one
 
-later-place : (a b : ℕ) → nat_lt (1 + a) (suc b) ≡ nat_lt a b
+pub later-place : (a b : ℕ) → nat_lt (1 + a) (suc b) ≡ nat_lt a b
 later-place a b = grind (arith, nat_tests)
 
-first-place : (n : ℕ) → nat_lt 0 (suc n) ≡ true
+pub first-place : (n : ℕ) → nat_lt 0 (suc n) ≡ true
 first-place n = grind (arith, nat_tests)
 
 behind-one : (n : ℕ) → 1 + n ≡ suc n
@@ -106,6 +106,7 @@ first-found test (h ∷ hs) = by (test h.state) (first-found test hs)
   where
     states : List Sa
     states = map (λ (x : HeldView). x.state) hs
+
     place : ℕ
     place = position_or_len (λ (x : HeldView). test x.state) hs
 
@@ -130,6 +131,7 @@ first-within test hs t is_t =
   where
     place : ℕ
     place = position_or_len test hs
+
     by : (b : Bool) → nat_lt place (length hs) ≡ b → IfSome (cond b (Some place) None) (λ p. p < length hs)
     by true e = grind (arith, nat_tests, e)
     by false e = tt

@@ -11,3 +11,4 @@ pub mod Packets
 pub mod Adding
 pub mod Walks
 pub mod Ages
+pub mod FreeSpis

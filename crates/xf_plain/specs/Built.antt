@@ -3,7 +3,7 @@ use Rattle.std.specs.Prelude.{◌≡◌, Bool, true, false, ◌==◌, [], length
 use Rattle.xf_types.specs.declared.call.Call.{Call}
 use Rattle.xf_types.specs.declared.call.Call.TheVariants as call
 
--- the calls on policies, where those that are added have no templates, those on states but allocspi, flows, packets, outputs and ticks
+-- the calls on policies, where those that are added have no templates, those on states, flows, packets, outputs and ticks
 abbrev pub IsBuilt : Call → Type 0
 IsBuilt (call.PolicyAdd spec) = spec.templates ≡ []
 IsBuilt (call.PolicyUpdate spec) = spec.templates ≡ []
@@ -22,6 +22,7 @@ IsBuilt (call.StateDeleteAll filter) = Unit {0}
 IsBuilt (call.StateList filter) = Unit {0}
 IsBuilt (call.StateFlush proto) = Unit {0}
 IsBuilt call.StateCount = Unit {0}
+IsBuilt (call.AllocSpi spec) = Unit {0}
 IsBuilt (call.Flow flow) = Unit {0}
 IsBuilt (call.Packet packet) = Unit {0}
 IsBuilt (call.Output sid len) = Unit {0}
@@ -47,6 +48,7 @@ is_built (call.StateDeleteAll filter) = true
 is_built (call.StateList filter) = true
 is_built (call.StateFlush proto) = true
 is_built call.StateCount = true
+is_built (call.AllocSpi spec) = true
 is_built (call.Flow flow) = true
 is_built (call.Packet packet) = true
 is_built (call.Output sid len) = true

@@ -2,4 +2,5 @@ pub mod Built
 pub mod Growth
 pub mod Kept
 pub mod Replacing
+pub mod Spis
 pub mod Table

@@ -4,7 +4,7 @@ ghost use Rattle.xf_plain.specs.Built.{IsBuilt, is_built};
 
 use xf_types::Call;
 
-/// Whether the machine has this call already: one on policies without templates or on states, a flow, a packet, an output, or a tick.
+/// Whether the machine has this call already: one on policies without templates or on states, a request for an SPI, a flow, a packet, an output, or a tick.
 pub fn is_built(call: &Call) -> bool
     ensures test { result ≡ is_built call.now }
     ensures fact { IsTrue result ↔ IsBuilt call.now }
@@ -26,6 +26,7 @@ pub fn is_built(call: &Call) -> bool
         | Call::StateList(_)
         | Call::StateFlush(_)
         | Call::StateCount
+        | Call::AllocSpi(_)
         | Call::Flow(_)
         | Call::Packet(_)
         | Call::Output { .. }

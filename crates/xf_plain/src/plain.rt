@@ -4,6 +4,7 @@ ghost use Rattle.xf_plain.specs.Built.{IsBuilt};
 ghost use Rattle.xf_plain.specs.Growth.{GrowsLittle};
 
 mod policies;
+mod spis;
 mod states;
 mod time;
 
@@ -235,6 +236,7 @@ impl Plain {
             Call::StateList(filter) => self.state_list(filter),
             Call::StateFlush(proto) => self.state_flush(*proto),
             Call::StateCount => self.state_count(),
+            Call::AllocSpi(spec) => self.alloc_spi(spec),
             Call::Flow(flow) => self.flow(flow),
             Call::Packet(packet) => self.packet(packet),
             Call::Output { sid, len } => self.output(*sid, *len),

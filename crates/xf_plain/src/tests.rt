@@ -3,8 +3,8 @@ use super::*;
 use std::process::Abort;
 use std::test::Fail;
 use xf_types::{
-    Action, Addr, Call, Dir, Limits, Mark, Mode, Packet, PolicySpec, Prefix, Proto, Ptype, Reply,
-    SaFilter, SaSpec, Selector, Templates,
+    Action, Addr, AllocSpec, Call, Dir, Limits, Mark, Mode, Packet, PolicySpec, Prefix, Proto,
+    Ptype, Reply, SaFilter, SaSpec, Selector, Templates,
 };
 
 fn policy() -> Call {
@@ -62,6 +62,20 @@ fn packet() -> Call {
     })
 }
 
+fn any_of(min: u32, max: u32) -> Call {
+    Call::AllocSpi(AllocSpec {
+        src: Addr::V4(0),
+        dst: Addr::V4(0xc000_0202),
+        proto: Proto::Esp,
+        mode: Mode::Transport,
+        mark: Mark { value: 0, mask: 0 },
+        reqid: 0,
+        seq: 7,
+        min,
+        max,
+    })
+}
+
 fn every_state() -> Call {
     Call::StateList(SaFilter {
         src: None,
@@ -109,6 +123,33 @@ fn state_is_added_used_updated_and_listed(rt: HostRuntime) -> Result<(), Fail> {
     match reply(&rt, &mut plain, &every_state()) {
         Reply::StateList(states) => assert_eq!(rt; states.as_slice().len(), 1),
         other => assert!(rt; false, "{other:?} is no list"),
+    }
+    Ok(())
+}
+
+#[test]
+fn least_free_spi_is_given_then_the_next(rt: HostRuntime) -> Result<(), Fail> {
+    let mut plain = Plain::new(rt.alloc())?;
+    for (call, answer) in [
+        (
+            any_of(0x1000, 0x1001),
+            Reply::DoneSpi {
+                spi: 0x1000,
+                sid: 1,
+            },
+        ),
+        (
+            any_of(0x1000, 0x1001),
+            Reply::DoneSpi {
+                spi: 0x1001,
+                sid: 2,
+            },
+        ),
+        (any_of(0x1000, 0x1001), Reply::NoSpi),
+        (any_of(0x1001, 0x1000), Reply::Invalid),
+        (packet(), Reply::Larval),
+    ] {
+        assert_eq!(rt; reply(&rt, &mut plain, &call), answer);
     }
     Ok(())
 }
