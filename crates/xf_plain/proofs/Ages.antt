@@ -1,12 +1,11 @@
 -- The table at a later time.
-use Rattle.std.proofs.Common.{arith, ◌≡◌, ◌≢◌, ℕ, ◌+◌, ◌<◌, ◌≤◌, Bool, true, false, cond, not, List, [], ◌∷◌, ◌++◌, length, get_or, map, filter, refl, ap, sym, ◌∙◌, subst, All}
-use Rattle.std.specs.Prelude.{AllPairs, filter_map, option_to_list, zip, Option, None, Some}
+use Rattle.std.proofs.Common.{arith, ◌≡◌, ◌≢◌, ℕ, ◌<◌, ◌≤◌, Bool, true, false, cond, not, List, [], ◌∷◌, ◌++◌, length, get_or, map, filter, refl, ap, sym, ◌∙◌, subst, All}
+use Rattle.std.specs.Prelude.{filter_map, option_to_list, zip, Option, None, Some}
 use Rattle.std.proofs.lemmas.List.{get_or-map, length-map}
 use Rattle.std.proofs.lemmas.List.Elements.{All-nil, All-cons, All-head, All-tail, All-filter, All-map, All-weaker}
 use Rattle.std.proofs.lemmas.List.Kept.{AllPairs-filter}
 use Rattle.xf_types.specs.declared.policy.Policy.{Policy}
 use Rattle.xf_types.specs.declared.state.Sa.{Sa}
-use Rattle.xf_types.specs.declared.call.Event.{Event}
 use Rattle.xf_types.specs.Machine.{Own}
 use Rattle.xf_types.specs.PolicyList.{without}
 use Rattle.xf_types.specs.TickRules.{policy_ends, policy_later, policy_warns, soft_if, state_ends, state_event, state_later, state_warns, own_part}

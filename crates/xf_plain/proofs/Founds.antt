@@ -89,10 +89,10 @@ listed-passed test hs t i h s old is_t within at is fails so =
 
 -- ---- the first one
 
-later-place : (a b : ℕ) → nat_lt (1 + a) (suc b) ≡ nat_lt a b
+pub later-place : (a b : ℕ) → nat_lt (1 + a) (suc b) ≡ nat_lt a b
 later-place a b = grind (arith, nat_tests)
 
-first-place : (n : ℕ) → nat_lt 0 (suc n) ≡ true
+pub first-place : (n : ℕ) → nat_lt 0 (suc n) ≡ true
 first-place n = grind (arith, nat_tests)
 
 behind-one : (n : ℕ) → 1 + n ≡ suc n

@@ -1,11 +1,12 @@
 -- A step raises the counters of policy numbers and of state ids by one at most.
-use Rattle.std.proofs.Common.{arith, ◌≡◌, ◌≢◌, ◌⊎◌, inl, inr, ◌+◌, ◌*◌, ◌&&◌, ◌==◌, not, Bool, true, false, cond, ap, sym, subst, refl, length, ◌∙◌}
-use Rattle.std.specs.Prelude.{Option, None, Some, nat_le, find}
+use Rattle.std.proofs.Common.{arith, ◌≡◌, ◌≢◌, ℕ, ◌⊎◌, inl, inr, ◌+◌, ◌*◌, ◌&&◌, ◌==◌, not, Bool, true, false, cond, ap, sym, subst, refl, length, ◌∙◌}
+use Rattle.std.specs.Prelude.{Option, None, Some, nat_le, nat_lt, find}
 use Rattle.xf_types.specs.declared.call.Reply.{Reply}
-use Rattle.xf_types.specs.declared.call.Reply.TheVariants.{NoMemory, Invalid, PolicyExists, NoEntry, DoneIndex, DoneSid, NoState, FlowNone, FlowBlock, FlowAllow, Waiting, Acquire}
+use Rattle.xf_types.specs.declared.call.Reply.TheVariants.{NoMemory, Invalid, PolicyExists, NoEntry, DoneIndex, DoneSid, NoState, FlowNone, FlowBlock, FlowAllow, Waiting, Acquire, DoneSpi, NoSpi}
 use Rattle.xf_types.specs.declared.policy.Policy.{Policy}
 use Rattle.xf_types.specs.declared.policy.PolicySpec.{PolicySpec}
 use Rattle.xf_types.specs.declared.policy.PolicyKey.{PolicyKey}
+use Rattle.xf_types.specs.declared.state.AllocSpec.{AllocSpec}
 use Rattle.xf_types.specs.declared.state.Sa.{Sa}
 use Rattle.xf_types.specs.declared.state.SaSpec.{SaSpec}
 use Rattle.xf_types.specs.declared.network.Addr.{Addr}
@@ -17,7 +18,7 @@ use Rattle.xf_types.specs.FlowRules.{acquired, acquired_spec, free_seq, last_seq
 use Rattle.xf_types.specs.Resolution.{Resolution, Through, Waits, Wants}
 use Rattle.xf_types.specs.PolicyList.{first_policy, has_key}
 use Rattle.xf_types.specs.StateList.{has_sid, changed, latest_match, id_of, is_none}
-use Rattle.xf_types.specs.StateRules.{is_full, full_of_states, state_added_if_room, refreshed_record, state_updated, state_update}
+use Rattle.xf_types.specs.StateRules.{is_full, full_of_states, state_added_if_room, refreshed_record, state_updated, state_update, alloc_spi, allocated, free_spi, larval_spec}
 use Rattle.xf_types.specs.Counters.{next_in}
 use Rattle.xf_types.specs.Same.{dir_number}
 use Rattle.xf_types.specs.Machine.{Machine, Shown, Outcome, outcome}
@@ -172,3 +173,21 @@ pub GrowsLittle-flow : (m n : Machine) (flow : Flow) (r : Reply)
 GrowsLittle-flow m n flow r done memory =
     grows-answered m n (flow_rule m.shown flow) r done memory
     (little-by_policy m.shown flow (first_policy m.shown.policies flow))
+
+little-allocated : (s : Shown) (spec : AllocSpec) (o : Option ℕ) → Little s (allocated s spec o)
+little-allocated s spec None = little-stays s NoSpi
+little-allocated s spec (Some spi) =
+    little-if s (is_full s) (full_of_states s)
+    (answer (DoneSpi spi s.next_sid) (LeaveThen s is_none (Some (record { spec = larval_spec spec spi; larval = true }))))
+    (record { grows = record { numbers = omega arith; sids = omega arith } })
+    (record { grows = record { numbers = omega arith; sids = omega arith } })
+
+-- or a request for an SPI
+pub GrowsLittle-alloc_spi : (m n : Machine) (spec : AllocSpec) (r : Reply)
+    → (r ≢ NoMemory → outcome r n ≡ applied m (alloc_spi m.shown spec)) → (r ≡ NoMemory → n ≡ m)
+    → GrowsLittle m.shown n.shown
+GrowsLittle-alloc_spi m n spec r done memory =
+    let found = free_spi spec m.shown.states in
+    grows-answered m n (alloc_spi m.shown spec) r done memory
+    (little-if m.shown (nat_lt spec.max spec.min) (stays Invalid) (allocated m.shown spec found)
+    (little-stays m.shown Invalid) (little-allocated m.shown spec found))

@@ -11,3 +11,4 @@ pub mod Adding
 pub mod Walks
 pub mod Ages
 pub mod Asking
+pub mod FreeSpis

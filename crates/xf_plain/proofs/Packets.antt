@@ -2,7 +2,6 @@
 use Rattle.std.proofs.Common.{arith, ◌≡◌, ◌≢◌, ℕ, ◌<◌, Bool, true, false, cond, not, length, ap, sym, subst, ◌∙◌, refl, ◌==◌, ◌+◌}
 use Rattle.std.specs.Prelude.{Option, None, Some, IfSome, slice_get}
 use Rattle.xf_types.specs.declared.state.Sa.{Sa}
-use Rattle.xf_types.specs.declared.state.SaId.{SaId}
 use Rattle.xf_types.specs.declared.call.Packet.{Packet}
 use Rattle.xf_types.specs.declared.call.Reply.{Reply}
 use Rattle.xf_types.specs.declared.call.Reply.TheVariants as reply
@@ -13,8 +12,7 @@ use Rattle.xf_types.specs.Machine.{Machine, Own, outcome, Outcome}
 use Rattle.xf_types.specs.OneState.{on_found, put_back}
 use Rattle.xf_types.specs.OwnParts.{own_in}
 use Rattle.xf_types.specs.Replay.{Fresh, Zero, Old, Seen, replay_check, accepted_with, top}
-use Rattle.xf_types.specs.StateList.{latest_match}
-use Rattle.xf_types.specs.TrafficRules.{Fate, Same, Ends, Becomes, Treated, treated, charged, last_number, output_at, sent_or_overflow, packet_at, by_window, by_integrity, within_limits, verdict_at, id_of_packet}
+use Rattle.xf_types.specs.TrafficRules.{Fate, Same, Ends, Becomes, Treated, treated, charged, last_number, output_at, sent_or_overflow, packet_at, by_window, by_integrity, within_limits, verdict_at}
 use Rattle.xf_plain.specs.Growth.{GrowsLittle}
 use Rattle.xf_plain.specs.Table.{TableView, Puts, own_in_table, table_put}
 use Rattle.xf_plain.proofs.KeptStates.{at-some}

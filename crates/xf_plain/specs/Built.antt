@@ -1,9 +1,9 @@
 -- Which calls the plain machine has so far.
-use Rattle.std.specs.Prelude.{Bool, true, false}
+use Rattle.std.specs.Prelude.{Bool, true}
 use Rattle.xf_types.specs.declared.call.Call.{Call}
 use Rattle.xf_types.specs.declared.call.Call.TheVariants as call
 
--- every call but allocspi
+-- every call
 abbrev pub IsBuilt : Call → Type 0
 IsBuilt (call.PolicyAdd spec) = Unit {0}
 IsBuilt (call.PolicyUpdate spec) = Unit {0}
@@ -22,12 +22,12 @@ IsBuilt (call.StateDeleteAll filter) = Unit {0}
 IsBuilt (call.StateList filter) = Unit {0}
 IsBuilt (call.StateFlush proto) = Unit {0}
 IsBuilt call.StateCount = Unit {0}
+IsBuilt (call.AllocSpi spec) = Unit {0}
 IsBuilt (call.Flow flow) = Unit {0}
 IsBuilt (call.TryFlow flow) = Unit {0}
 IsBuilt (call.Packet packet) = Unit {0}
 IsBuilt (call.Output sid len) = Unit {0}
 IsBuilt (call.Tick given) = Unit {0}
-IsBuilt _ = ⊥
 
 -- the test of this
 abbrev pub is_built : Call → Bool
@@ -48,9 +48,9 @@ is_built (call.StateDeleteAll filter) = true
 is_built (call.StateList filter) = true
 is_built (call.StateFlush proto) = true
 is_built call.StateCount = true
+is_built (call.AllocSpi spec) = true
 is_built (call.Flow flow) = true
 is_built (call.TryFlow flow) = true
 is_built (call.Packet packet) = true
 is_built (call.Output sid len) = true
 is_built (call.Tick given) = true
-is_built _ = false

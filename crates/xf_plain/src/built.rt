@@ -4,7 +4,7 @@ ghost use Rattle.xf_plain.specs.Built.{IsBuilt, is_built};
 
 use xf_types::Call;
 
-/// Whether the machine has this call already: every one but allocspi.
+/// Whether the machine has this call already: every one.
 pub fn is_built(call: &Call) -> bool
     ensures test { result ≡ is_built call.now }
     ensures fact { IsTrue result ↔ IsBuilt call.now }
@@ -27,11 +27,11 @@ pub fn is_built(call: &Call) -> bool
         | Call::StateList(_)
         | Call::StateFlush(_)
         | Call::StateCount
+        | Call::AllocSpi(_)
         | Call::Flow(_)
         | Call::TryFlow(_)
         | Call::Packet(_)
         | Call::Output { .. }
         | Call::Tick(_) => true,
-        _ => false,
     }
 }

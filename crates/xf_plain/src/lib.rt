@@ -8,6 +8,7 @@ mod indices;
 mod listing;
 mod plain;
 mod removing;
+mod spis;
 mod table;
 #[cfg(test)]
 mod tests;

@@ -5,6 +5,7 @@ ghost use Rattle.xf_plain.specs.Growth.{GrowsLittle};
 
 mod flows;
 mod policies;
+mod spis;
 mod states;
 mod time;
 
@@ -215,12 +216,12 @@ impl Plain {
             Call::StateList(filter) => self.state_list(filter),
             Call::StateFlush(proto) => self.state_flush(*proto),
             Call::StateCount => self.state_count(),
+            Call::AllocSpi(spec) => self.alloc_spi(spec),
             Call::Flow(flow) => self.flow(flow),
             Call::TryFlow(flow) => self.try_flow(flow),
             Call::Packet(packet) => self.packet(packet),
             Call::Output { sid, len } => self.output(*sid, *len),
             Call::Tick(given) => self.tick(*given),
-            _ => unreachable!(),
         }
     }
 }

@@ -2,7 +2,7 @@
 ghost use Rattle.std.specs.Prelude.{◌≡◌, ◌<◌, ◌≤◌, ◌==◌, ◌&&◌, ◌++◌, [], not, All, IfOk, IfSome, OnOk, OnErr, option_copied, Some, count_by, filter, filter_map, find, map, position, zip, length, slice_get, vec_capacity};
 ghost use Rattle.xf_plain.specs.Table.{Puts, own_in_table, table_of, table_with, table_without, table_changed, table_later, held_later, pair_of, state_at};
 ghost use Rattle.xf_types.specs.StateList.{latest_match, last_of, has_id, has_sid, is_larval_of, is_that, state_meets, larval_replaced};
-ghost use Rattle.xf_types.specs.StateRules.{refreshed_record};
+ghost use Rattle.xf_types.specs.StateRules.{free_spi, refreshed_record};
 ghost use Rattle.xf_types.specs.PolicyList.{without};
 ghost use Rattle.xf_types.specs.Same.{meets_one, same_proto};
 ghost use Rattle.std.specs.List.{list_any};
@@ -15,11 +15,14 @@ ghost use Rattle.xf_types.specs.TrafficRules.{output_at, packet_at};
 
 use crate::aging::push_some;
 use crate::indices::next_seq;
+use crate::spis;
 use std::alloc::{AllocError, Global};
 use std::marker::Model;
 use xf_held::{Held, admits, has_id, is_larval_of, is_that, meets_proto};
 use xf_paths::{Resolved, resolve};
-use xf_types::{Event, Flow, NoMemory, Packet, Proto, Reply, Sa, SaFilter, SaId, SaSpec, Template};
+use xf_types::{
+    AllocSpec, Event, Flow, NoMemory, Packet, Proto, Reply, Sa, SaFilter, SaId, SaSpec, Template,
+};
 
 /// The states, the latest last.
 #[derive(Debug, Drop)]
@@ -150,6 +153,14 @@ impl StateTable {
             seq = next_seq(seq);
         }
         seq
+    }
+
+    /// The least free SPI of the range that is asked for.
+    pub(crate) fn free_spi(&self, spec: &AllocSpec) -> Result<Option<u32>, AllocError>
+        requires { spec.now.min ≤ spec.now.max }
+        ensures { IfOk result (λ spi. spi ≡ free_spi spec.now self.now.states) }
+    {
+        spis::find_free(*self.held.allocator(), &self.held, spec)
     }
 
     /// How many the filter admits.

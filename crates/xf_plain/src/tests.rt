@@ -4,8 +4,8 @@ use arrayvec::ArrayVec;
 use std::process::Abort;
 use std::test::Fail;
 use xf_types::{
-    Action, Addr, Call, Dir, Event, Flow, Limits, Mark, Mode, Packet, PolicySpec, Prefix, Proto,
-    Ptype, Reply, SaFilter, SaSpec, Selector, Template, Templates,
+    Action, Addr, AllocSpec, Call, Dir, Event, Flow, Limits, Mark, Mode, Packet, PolicySpec,
+    Prefix, Proto, Ptype, Reply, SaFilter, SaSpec, Selector, Template, Templates,
 };
 
 fn policy() -> PolicySpec {
@@ -60,6 +60,20 @@ fn packet() -> Call {
         len: 100,
         mark: 0,
         icv_ok: true,
+    })
+}
+
+fn any_of(min: u32, max: u32) -> Call {
+    Call::AllocSpi(AllocSpec {
+        src: Addr::V4(0),
+        dst: Addr::V4(0xc000_0202),
+        proto: Proto::Esp,
+        mode: Mode::Transport,
+        mark: Mark { value: 0, mask: 0 },
+        reqid: 0,
+        seq: 7,
+        min,
+        max,
     })
 }
 
@@ -173,6 +187,33 @@ fn flow_asks_for_a_state_and_waits_for_it(rt: HostRuntime) -> Result<(), Fail> {
             assert_eq!(rt; events.as_slice(), [Event::StateExpired(1)].as_slice());
         }
         other => assert!(rt; false, "{other:?} is no tick"),
+    }
+    Ok(())
+}
+
+#[test]
+fn least_free_spi_is_given_then_the_next(rt: HostRuntime) -> Result<(), Fail> {
+    let mut plain = Plain::new(rt.alloc())?;
+    for (call, answer) in [
+        (
+            any_of(0x1000, 0x1001),
+            Reply::DoneSpi {
+                spi: 0x1000,
+                sid: 1,
+            },
+        ),
+        (
+            any_of(0x1000, 0x1001),
+            Reply::DoneSpi {
+                spi: 0x1001,
+                sid: 2,
+            },
+        ),
+        (any_of(0x1000, 0x1001), Reply::NoSpi),
+        (any_of(0x1001, 0x1000), Reply::Invalid),
+        (packet(), Reply::Larval),
+    ] {
+        assert_eq!(rt; reply(&rt, &mut plain, &call), answer);
     }
     Ok(())
 }

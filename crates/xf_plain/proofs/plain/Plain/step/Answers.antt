@@ -2,7 +2,7 @@ use Rattle.std.specs.Prelude.{find}
 use Rattle.xf_types.specs.declared.call.Reply.TheVariants.{NoState, Stale}
 use Rattle.xf_types.specs.StateList.{has_sid, latest_match}
 use Rattle.xf_types.specs.TrafficRules.{id_of_packet, output_at, packet_at}
-use Rattle.xf_plain.proofs.Growing.{GrowsLittle-added, GrowsLittle-updated, GrowsLittle-deleted, GrowsLittle-state_updated, GrowsLittle-flow}
+use Rattle.xf_plain.proofs.Growing.{GrowsLittle-added, GrowsLittle-updated, GrowsLittle-deleted, GrowsLittle-state_updated, GrowsLittle-flow, GrowsLittle-alloc_spi}
 use Rattle.xf_plain.proofs.Packets.{grows-found}
 use Rattle.xf_plain.proofs.plain.Plain.step.Goals as goal
 
@@ -25,6 +25,11 @@ pub returns-in-StateUpdate-clause-grows : goal.returns-in-StateUpdate-clause-gro
 returns-in-StateUpdate-clause-grows c =
     GrowsLittle-state_updated c.args.self.now c.state_update.new.self c.in-StateUpdate.spec c.state_update.result
     c.state_update.ensures.answer c.state_update.ensures.memory
+
+pub returns-in-AllocSpi-clause-grows : goal.returns-in-AllocSpi-clause-grows
+returns-in-AllocSpi-clause-grows c =
+    GrowsLittle-alloc_spi c.args.self.now c.alloc_spi.new.self c.in-AllocSpi.spec c.alloc_spi.result
+    c.alloc_spi.ensures.answer c.alloc_spi.ensures.memory
 
 pub returns-in-Packet-clause-grows : goal.returns-in-Packet-clause-grows
 returns-in-Packet-clause-grows c =
