@@ -8,7 +8,7 @@ use Rattle.xf_types.specs.declared.policy.Policy.{Policy}
 use Rattle.xf_types.specs.declared.state.Sa.{Sa}
 use Rattle.xf_types.specs.Machine.{Own}
 use Rattle.xf_types.specs.PolicyList.{without}
-use Rattle.xf_types.specs.TickRules.{policy_ends, policy_later, policy_warns, soft_if, state_ends, state_event, state_later, state_warns, own_part}
+use Rattle.xf_types.specs.TickRules.{policy_ends, policy_later, state_ends, state_event, state_later, state_warns, own_part}
 use Rattle.xf_types.specs.OneState.{dying_if}
 use Rattle.xf_held.specs.View.{HeldView}
 use Rattle.xf_plain.specs.Table.{TableView, table_of, table_later, held_later, pair_of}

@@ -12,7 +12,7 @@ use Rattle.xf_types.specs.declared.policy.Template.{Template}
 use Rattle.xf_types.specs.declared.state.Sa.{Sa}
 use Rattle.xf_types.specs.declared.state.SaSpec.{SaSpec}
 use Rattle.xf_types.specs.declared.call.Reply.{Reply}
-use Rattle.xf_types.specs.declared.call.Reply.TheVariants.{NoMemory, FlowNone, FlowBlock, FlowAllow, Waiting, Acquire}
+use Rattle.xf_types.specs.declared.call.Reply.TheVariants.{NoMemory, FlowNone, Acquire}
 use Rattle.xf_types.specs.Changes.{Answer, answer, applied, machine_after, stays, LeaveThen}
 use Rattle.xf_types.specs.Counters.{next_in}
 use Rattle.xf_types.specs.FlowRules.{WantAnswer, acquired, acquired_spec, by_action, by_policy, flow_answer, free_seq, last_seq, resolved}

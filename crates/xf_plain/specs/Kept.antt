@@ -1,5 +1,5 @@
 -- What every plain machine keeps.
-use Rattle.std.specs.Prelude.{◌≡◌, ℕ, ◌<◌, ◌≤◌, List, [], All, length}
+use Rattle.std.specs.Prelude.{ℕ, ◌<◌, ◌≤◌, List, All, length}
 use Rattle.xf_types.specs.declared.policy.Policy.{Policy}
 use Rattle.xf_types.specs.declared.state.Sa.{Sa}
 use Rattle.xf_types.specs.PolicyRules.{last_index}

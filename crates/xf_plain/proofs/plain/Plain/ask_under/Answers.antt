@@ -1,4 +1,4 @@
-use Rattle.std.proofs.Common.{◌≡◌, refl, ap, sym, ◌∙◌}
+use Rattle.std.proofs.Common.{refl, ap, sym, ◌∙◌}
 use Rattle.xf_types.specs.declared.state.SaSpec.{SaSpec}
 use Rattle.xf_paths.specs.Shown.{shown}
 use Rattle.xf_plain.proofs.Asking.{wants-answer}

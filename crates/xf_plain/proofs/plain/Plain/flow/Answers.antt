@@ -1,5 +1,5 @@
-use Rattle.std.proofs.Common.{◌≡◌, ap, sym, ◌∙◌}
-use Rattle.xf_types.specs.Changes.{Answer, applied}
+use Rattle.std.proofs.Common.{ap, sym, ◌∙◌}
+use Rattle.xf_types.specs.Changes.{applied}
 use Rattle.xf_types.specs.FlowRules.{acquired}
 use Rattle.xf_plain.proofs.Asking.{acquires, contended-asked}
 use Rattle.xf_plain.proofs.plain.Plain.flow.Goals as goal

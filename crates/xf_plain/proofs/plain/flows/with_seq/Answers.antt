@@ -1,4 +1,3 @@
-use Rattle.std.proofs.Common.{◌≡◌}
 use Rattle.xf_types.proofs.SameFields.{any_facts}
 use Rattle.xf_plain.proofs.plain.flows.with_seq.Goals as goal
 

@@ -1,4 +1,4 @@
-use Rattle.std.proofs.Common.{◌≡◌, ◌==◌, ap, ◌∙◌}
+use Rattle.std.proofs.Common.{◌==◌, ap, ◌∙◌}
 use Rattle.std.specs.List.{list_any}
 use Rattle.xf_types.specs.declared.state.Sa.{Sa}
 use Rattle.xf_held.specs.View.{HeldView}
