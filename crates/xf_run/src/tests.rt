@@ -134,11 +134,7 @@ const BAD: [BadRow<'static>; 46] = [
         Reason::Address,
     ),
     (b"packet colour", b"bad line 1: word\n", Reason::Word),
-    (
-        b"tick 01",
-        b"bad line 1: number\n",
-        Reason::Number,
-    ),
+    (b"tick 01", b"bad line 1: number\n", Reason::Number),
     (
         b"worker 16",
         b"bad line 1: unsupported\n",
@@ -1233,7 +1229,13 @@ fn sizes<R: Threads + Wait + Abort>(rt: &R, alloc: Global) -> Result<(), Fail> {
         text,
         bad(16_385, Reason::Phase),
     )?;
-    answers(rt, alloc, &[&counts, SEND], text, bad(16_385, Reason::Phase))?;
+    answers(
+        rt,
+        alloc,
+        &[&counts, SEND],
+        text,
+        bad(16_385, Reason::Phase),
+    )?;
     answers(
         rt,
         alloc,

@@ -1,6 +1,4 @@
-use Rattle.std.proofs.Common.{◌≡◌}
 use Rattle.xf_run.proofs.Making.{one_made}
-use Rattle.xf_run.specs.Shown.{line_with}
 use Rattle.xf_run.proofs.calls.make_line.Goals as goal
 
 pub returns-in_ok-reply-in-One-clause-ok : goal.returns-in_ok-reply-in-One-clause-ok

@@ -1,4 +1,4 @@
-use Rattle.std.proofs.Common.{◌≡◌, arith, rules}
+use Rattle.std.proofs.Common.{arith}
 use Rattle.xf_types.specs.declared.network.Proto.TheVariants as proto
 use Rattle.xf_types.specs.declared.network.Addr.TheVariants as address
 use Rattle.xf_run.proofs.Making.{outputs_more}
