@@ -3,17 +3,22 @@ ghost use Rattle.std.specs.Prelude.{None};
 
 use crate::clock::Clock;
 use std::rt;
-use std::time::{SystemTime, UNIX_EPOCH};
+use std::time::Instant;
 
-/// Whole seconds since 1970, or 0 where the system's clock doesn't tell them. Its answers aren't told.
+/// Whole seconds since it was made, or 0 where the system's clock doesn't tell them: as the databases' time, it begins at 0. Its
+/// answers aren't told.
 #[derive(Drop)]
 pub struct StdClock<'a, R: rt::Clock> {
     rt: &'a R,
+    start: Option<Instant>,
 }
 
 impl<'a, R: rt::Clock> StdClock<'a, R> {
     pub fn new(rt: &'a R) -> StdClock<'a, R> {
-        StdClock { rt }
+        StdClock {
+            rt,
+            start: Instant::now(rt).ok(),
+        }
     }
 }
 
@@ -21,12 +26,12 @@ impl<R: rt::Clock> Clock for StdClock<'_, R> {
     ghost coming = { λ _. None };
 
     fn now(&mut self) -> u64 {
-        match SystemTime::now(self.rt) {
-            Ok(moment) => match moment.duration_since(UNIX_EPOCH) {
+        match &self.start {
+            None => 0,
+            Some(start) => match start.elapsed(self.rt) {
                 Ok(span) => span.as_secs(),
                 Err(_) => 0,
             },
-            Err(_) => 0,
         }
     }
 }
@@ -34,37 +39,46 @@ impl<R: rt::Clock> Clock for StdClock<'_, R> {
 #[cfg(test)]
 mod tests {
     use super::*;
+    use std::cell::Cell;
     use std::io;
     use std::io::ErrorKind;
     use std::time::Duration;
 
-    // A system's clock that stands still, or tells nothing.
+    // A system's clock that goes on by 2.5 seconds with each look, or tells nothing.
     #[derive(Drop)]
-    struct Stopped {
-        since_1970: Option<Duration>,
+    struct Stepping {
+        looks: Cell<u64>,
+        tells: bool,
     }
 
-    impl rt::Clock for Stopped {
+    impl rt::Clock for Stepping {
         fn monotonic(&self) -> io::Result<Duration> {
-            self.since_1970()
+            let looks = self.looks.get();
+            self.looks.set(looks.wrapping_add(1) % 1000);
+            if self.tells {
+                Ok(Duration::from_millis(1_000_000 + looks % 1000 * 2500))
+            } else {
+                Err(io::Error::from(ErrorKind::Unsupported))
+            }
         }
 
         fn since_1970(&self) -> io::Result<Duration> {
-            self.since_1970
-                .ok_or(io::Error::from(ErrorKind::Unsupported))
+            self.monotonic()
         }
     }
 
     #[test]
-    fn tells_whole_seconds(rt: HostRuntime) {
-        let stopped = Stopped {
-            since_1970: Some(Duration::new(1_700_000_000, 999_999_999)),
-        };
-        let mut clock = StdClock::new(&stopped);
-        assert_eq!(rt; clock.now(), 1_700_000_000);
-        assert_eq!(rt; clock.now(), 1_700_000_000);
-
-        assert_eq!(rt; StdClock::new(&Stopped { since_1970: None }).now(), 0);
-        assert!(rt; StdClock::new(&rt).now() > 0);
+    fn tells_whole_seconds_from_its_making(rt: HostRuntime) {
+        for (tells, answers) in [(true, [2, 5, 7]), (false, [0, 0, 0])] {
+            let stepping = Stepping {
+                looks: Cell::new(0),
+                tells,
+            };
+            let mut clock = StdClock::new(&stepping);
+            for answer in answers {
+                assert_eq!(rt; clock.now(), answer);
+            }
+        }
+        assert!(rt; StdClock::new(&rt).now() < u64::MAX);
     }
 }

@@ -1,5 +1,6 @@
 pub mod Told
-pub mod Histories
+pub mod Turning
+pub mod Making
 pub mod Progressing
 pub mod Outcomes
 pub mod Parts

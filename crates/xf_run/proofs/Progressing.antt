@@ -4,45 +4,63 @@ use Rattle.std.specs.Prelude.{Option}
 use Rattle.std.specs.Io.KnownBytes.{Appends}
 use Rattle.std.proofs.KnownBytes.{Appends-trans, Appends-nil}
 use Rattle.std.proofs.lemmas.List.{take_more}
-use Rattle.xf_types.specs.declared.call.Receipt.{Receipt}
-use Rattle.xf_types.specs.Batch.{Line}
+use Rattle.std.proofs.lemmas.List.Folds.{list_any-append}
+use Rattle.xf_types.specs.Batch.{Line, IsRunOf, Runs}
 use Rattle.xf_types.specs.Codes.{is_refusal_of}
-use Rattle.xf_types.specs.History.{has_refusal}
 use Rattle.xf_types.specs.Machine.{Machine}
 use Rattle.xf_types.specs.Steps.{empty}
 use Rattle.xf_run.specs.declared.batch.CallLine.{CallLine}
 use Rattle.xf_run.specs.Outcome.{Answered, IsHistoryOfFirst, IsCutOff, IsCutBetween}
-use Rattle.xf_run.specs.Progress.{Answers, Stops, at_line}
+use Rattle.xf_run.specs.Progress.{Answers, Stops}
 use Rattle.xf_run.specs.Shown.{line_of, lines_shown}
-use Rattle.xf_print.specs.Receipts.{text_of, answer_text}
-use Rattle.xf_run.proofs.Histories.{text_of-push, has_refusal-push}
-use Rattle.xf_run.proofs.Told.{Told, Told-more, receipt_of, IsHistoryOf-told}
+use Rattle.xf_run.specs.Turns.{Turn, Lead, receipts_from, turns_text, is_refused}
+use Rattle.xf_run.proofs.Told.{IsHistoryOf-turns}
+use Rattle.xf_run.proofs.Turning.{Lead-join, receipts_from-join, IsRunOf-renumber, Runs-more, text_of-turns, has_refusal-turns, text_join}
 
--- the lines so far were answered, and the machine stands after them
+-- these turns are exactly those of the lines so far, and the machine stands after them
+pub record Ran (ls : List CallLine) (turns : List Turn) (m : Machine) : Type 0 where
+  pub lead : Lead (empty 4096 8192) turns m
+  pub runs : Runs (lines_shown ls) (receipts_from 0 turns)
+
+-- the lines so far were answered
 pub record SoFar (ls : List CallLine) (m : Machine) (refused : Bool) (old new : Option (List ℕ)) : Type 0 where
-  pub history : List Receipt
-  pub told : Told 0 (empty 4096 8192) ls history m
-  pub text : Appends old new (text_of history)
-  pub refusals : has_refusal history ≡ refused
+  pub turns : List Turn
+  pub ran : Ran ls turns m
+  pub text : Appends old new (turns_text turns)
+  pub refusals : is_refused turns ≡ refused
 
 -- no line was answered yet
 pub so_far_none : (text : Option (List ℕ)) → SoFar [] (empty 4096 8192) false text text
-so_far_none text = record { history = []; told = refl; text = Appends-nil text; refusals = refl }
+so_far_none text = record { turns = []; ran = record { lead = refl; runs = refl }; text = Appends-nil text; refusals = refl }
+
+-- the lines of two lists of calls
+map-join : (xs ys : List CallLine) → lines_shown (xs ++ ys) ≡ lines_shown xs ++ lines_shown ys
+map-join [] ys = refl
+map-join (x ∷ xs) ys = ap (λ (ls : List Line). line_of x ∷ ls) (map-join xs ys)
+
+-- the turns of one more line
+ran_more : (ls : List CallLine) (m n : Machine) (l : CallLine) (xs ys : List Turn) → Ran ls xs m → IsRunOf (line_of l) (receipts_from 0 ys)
+    → Lead m ys n → Ran (ls ++ l ∷ []) (xs ++ ys) n
+ran_more ls m n l xs ys r run lead = record {
+  lead = Lead-join (empty 4096 8192) m n xs ys r.lead lead;
+  runs =
+      rw (map-join ls (l ∷ []), receipts_from-join 0 (length xs) xs ys (omega arith))
+      (Runs-more (lines_shown ls) (line_of l) (receipts_from 0 xs) (receipts_from (length xs) ys) r.runs
+      (IsRunOf-renumber (line_of l) ys 0 (length xs) run));
+}
 
 -- one more line is answered
 so_far_more : (ls : List CallLine) (m n : Machine) (refused refusal : Bool) (old mid new : Option (List ℕ)) (l : CallLine)
     → SoFar ls m refused old mid → Answers m n l refusal mid new → SoFar (ls ++ l ∷ []) n (refused || refusal) old new
-so_far_more ls m n refused refusal old mid new l s a =
-    let h = s.history in
-    let r : Receipt = receipt_of (length h) l a.reply in
-    record {
-      history = h ++ r ∷ [];
-      told = Told-more 0 (length h) (empty 4096 8192) m n ls h l a.reply (omega arith) s.told a.may;
-      text = rw (text_of-push h r) (Appends-trans old mid new (text_of h) (answer_text (at_line l.line) a.reply) s.text a.text);
-      refusals =
-          has_refusal-push h r ∙ ap (λ (b : Bool). b || is_refusal_of a.reply) s.refusals
-          ∙ ap (λ (b : Bool). refused || b) (sym a.refusal);
-    }
+so_far_more ls m n refused refusal old mid new l s a = record {
+  turns = s.turns ++ a.turns;
+  ran = ran_more ls m n l s.turns a.turns s.ran a.run a.lead;
+  text = rw (text_join s.turns a.turns) (Appends-trans old mid new (turns_text s.turns) (turns_text a.turns) s.text a.text);
+  refusals =
+      list_any-append (λ (t : Turn). is_refusal_of t.reply) s.turns a.turns
+      ∙ ap (λ (b : Bool). b || is_refused a.turns) s.refusals
+      ∙ ap (λ (b : Bool). refused || b) a.refusal;
+}
 
 -- a front with the line behind it
 front_more : (ls : List CallLine) (i : ℕ) (l : CallLine) → i < length ls → l ≡ get_or ls i l → take (i + 1) ls ≡ take i ls ++ l ∷ []
@@ -58,29 +76,28 @@ so_far_next ls i l m n refused refusal old mid new lt e s a =
 -- all lines were answered
 pub answered_all : (ls : List CallLine) (m : Machine) (refused : Bool) (old new : Option (List ℕ)) → SoFar ls m refused old new
     → Answered (lines_shown ls) refused old new
-answered_all ls m refused old new s =
-    record { history = s.history; is_history = IsHistoryOf-told m ls s.history s.told; text = s.text; refusals = s.refusals }
-
--- the lines of two lists of calls
-map-join : (xs ys : List CallLine) → lines_shown (xs ++ ys) ≡ lines_shown xs ++ lines_shown ys
-map-join [] ys = refl
-map-join (x ∷ xs) ys = ap (λ (ls : List Line). line_of x ∷ ls) (map-join xs ys)
+answered_all ls m refused old new s = record {
+  history = receipts_from 0 s.turns;
+  is_history = IsHistoryOf-turns m (lines_shown ls) s.turns s.ran.lead s.ran.runs;
+  text = rw (text_of-turns 0 s.turns) s.text;
+  refusals = has_refusal-turns 0 s.turns ∙ s.refusals;
+}
 
 -- a history of a front is one of the first lines
-first_of : (ls : List CallLine) (i : ℕ) (m : Machine) (h : List Receipt) → Told 0 (empty 4096 8192) (take i ls) h m
-    → IsHistoryOfFirst (lines_shown ls) h
-first_of ls i m h told = record {
+first_of : (ls : List CallLine) (i : ℕ) (m : Machine) (ts : List Turn) → Ran (take i ls) ts m
+    → IsHistoryOfFirst (lines_shown ls) (receipts_from 0 ts)
+first_of ls i m ts ran = record {
   first = lines_shown (take i ls);
   rest = lines_shown (drop i ls);
   is_front = sym (map-join (take i ls) (drop i ls)) ∙ ap lines_shown (take-append-drop i ls);
-  is_history = IsHistoryOf-told m (take i ls) h told;
+  is_history = IsHistoryOf-turns m (lines_shown (take i ls)) ts ran.lead ran.runs;
 }
 
 -- nothing was written yet
 pub cut_between_none : (ls : List Line) (text : Option (List ℕ)) → IsCutBetween ls text text
 cut_between_none ls text = record {
   history = [];
-  is_history = record { first = []; rest = ls; is_front = refl; is_history = IsHistoryOf-told (empty 4096 8192) [] [] refl };
+  is_history = record { first = []; rest = ls; is_front = refl; is_history = IsHistoryOf-turns (empty 4096 8192) [] [] refl refl };
   text = Appends-nil text;
 }
 
@@ -88,9 +105,11 @@ cut_between_none ls text = record {
 pub cut_between : (ls : List CallLine) (i : ℕ) (m : Machine) (refused : Bool) (old mid new : Option (List ℕ))
     → SoFar (take i ls) m refused old mid → Appends mid new [] → IsCutBetween (lines_shown ls) old new
 cut_between ls i m refused old mid new s a = record {
-  history = s.history;
-  is_history = first_of ls i m s.history s.told;
-  text = rw (← append-nil (text_of s.history)) (Appends-trans old mid new (text_of s.history) [] s.text a);
+  history = receipts_from 0 s.turns;
+  is_history = first_of ls i m s.turns s.ran;
+  text =
+      rw (text_of-turns 0 s.turns, ← append-nil (turns_text s.turns))
+      (Appends-trans old mid new (turns_text s.turns) [] s.text a);
 }
 
 -- the sink stopped within a line
@@ -98,20 +117,20 @@ pub cut_within : (ls : List CallLine) (i : ℕ) (l : CallLine) (m n : Machine) (
     → i < length ls → l ≡ get_or ls i l → SoFar (take i ls) m refused old mid → Stops m n l mid new
     → IsCutOff (lines_shown ls) old new
 cut_within ls i l m n refused old mid new lt e s w =
-    let h = s.history in
-    let r : Receipt = receipt_of (length h) l w.reply in
-    let told : Told 0 (empty 4096 8192) (take (i + 1) ls) (h ++ r ∷ []) n =
-    rw (front_more ls i l lt e) (Told-more 0 (length h) (empty 4096 8192) m n (take i ls) h l w.reply (omega arith) s.told w.may)
+    let ts : List Turn = s.turns ++ w.turns in
+    let ran : Ran (take (i + 1) ls) ts n =
+    rw (front_more ls i l lt e) (ran_more (take i ls) m n l s.turns w.turns s.ran w.run w.lead)
     in
     record {
-      history = h ++ r ∷ [];
-      is_history = first_of ls (i + 1) n (h ++ r ∷ []) told;
+      history = receipts_from 0 ts;
+      is_history = first_of ls (i + 1) n ts ran;
       part = record {
-        front = text_of h ++ w.part.front;
+        front = turns_text s.turns ++ w.part.front;
         more = w.part.more;
         is_front =
-            append_assoc (text_of h) w.part.front w.part.more ∙ ap (λ (t : List ℕ). text_of h ++ t) w.part.is_front
-            ∙ sym (text_of-push h r);
-        text = Appends-trans old mid new (text_of h) w.part.front s.text w.part.text;
+            append_assoc (turns_text s.turns) w.part.front w.part.more
+            ∙ ap (λ (t : List ℕ). turns_text s.turns ++ t) w.part.is_front ∙ sym (text_join s.turns w.turns)
+            ∙ sym (text_of-turns 0 ts);
+        text = Appends-trans old mid new (turns_text s.turns) w.part.front s.text w.part.text;
       };
     }

@@ -61,7 +61,7 @@ with_item now calls n (item.One c) =
 with_item now calls n (item.Worker worker) = Err (record { line = n; reason = reason.Unsupported })
 with_item now calls n item.Sync = Err (record { line = n; reason = reason.Unsupported })
 with_item now calls n item.TickNow = with_call_line calls n (One n (call.Tick now))
-with_item now calls n (item.Send flow len) = Err (record { line = n; reason = reason.Unsupported })
+with_item now calls n (item.Send flow len) = with_call_line calls n (Send n flow len)
 
 -- the call lines behind a line
 abbrev pub with_line : ℕ → List Line → ℕ → Result Item Reason → Result (List Line) BadLine

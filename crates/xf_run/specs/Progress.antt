@@ -1,45 +1,64 @@
--- What the parts of a run say: of one line, of all lines, and of a bad line.
-use Rattle.std.specs.Prelude.{◌≡◌, ◌≢◌, ℕ, Bool, true, false, List, [], Option}
+-- What the parts of a run say: of one call, of one line, of all lines, and of a bad line.
+use Rattle.std.specs.Prelude.{◌≡◌, ℕ, ◌+◌, ◌≤◌, Bool, true, false, List, [], ◌++◌, Option}
 use Rattle.std.specs.Io.KnownBytes.{Appends}
 use Rattle.xf_types.specs.declared.call.Call.{Call}
+use Rattle.xf_types.specs.declared.call.Hop.{Hop}
 use Rattle.xf_types.specs.declared.call.Place.{Place}
 use Rattle.xf_types.specs.declared.call.Reply.{Reply}
-use Rattle.xf_types.specs.declared.call.Reply.TheVariants.{NoMemory}
 use Rattle.xf_types.specs.declared.status.Status.{Status}
 use Rattle.xf_types.specs.declared.status.Status.TheVariants as status
-use Rattle.xf_types.specs.Codes.{is_refusal_of}
-use Rattle.xf_types.specs.Machine.{Machine, outcome}
-use Rattle.xf_types.specs.History.{is_contended}
-use Rattle.xf_types.specs.Steps.{step}
+use Rattle.xf_types.specs.Batch.{Line, AreOutputs, IsRunOf}
+use Rattle.xf_types.specs.Machine.{Machine, Shown}
 use Rattle.xf_run.specs.declared.batch.BadLine.{BadLine as Bad}
 use Rattle.xf_run.specs.declared.batch.CallLine.{CallLine}
 use Rattle.xf_run.specs.Outcome.{Answered, IsCutOff, IsCutBetween, PartOf}
-use Rattle.xf_run.specs.Shown.{lines_shown}
+use Rattle.xf_run.specs.Shown.{line_of, lines_shown}
+use Rattle.xf_run.specs.Turns.{Turn, MayAnswer, Lead, receipts_from, is_refused, turns_text}
 use Rattle.xf_print.specs.Receipts.{answer_text}
 use Rattle.xf_print.specs.BadLine.{bad_line_text}
 
--- the place of a line that has one part
-abbrev pub at_line : ℕ → Place
-at_line n = record { line = n; part = 0 }
+-- the next policy number and the next state id grow by at most so much
+pub record GrowsBy (count : ℕ) (old new : Shown) : Type 0 where
+  pub numbers : new.next_number ≤ old.next_number + count
+  pub sids : new.next_sid ≤ old.next_sid + count
 
--- the reply is the machine's, or want of memory, which leaves the machine; it never comes of other threads
-pub record MayAnswer (before after : Machine) (c : Call) (reply : Reply) : Type 0 where
-  pub answer : reply ≢ NoMemory → outcome reply after ≡ step before c
-  pub memory : reply ≡ NoMemory → after ≡ before
-  pub settled : is_contended reply ≡ false
+-- a call was made, and the text has grown by the reply's lines
+pub record MakesCall (before after : Machine) (at : Place) (c : Call) (reply : Reply) (old new : List ℕ) : Type 0 where
+  pub may : MayAnswer before after c reply
+  pub text : new ≡ old ++ answer_text at reply
 
--- a line was answered: the text has grown by the reply's line
+-- the turns were made, and the text has grown by their lines
+pub record Makes (before after : Machine) (turns : List Turn) (refused : Bool) (old new : List ℕ) : Type 0 where
+  pub lead : Lead before turns after
+  pub refusal : is_refused turns ≡ refused
+  pub text : new ≡ old ++ turns_text turns
+
+-- one output was made for each hop, in order
+pub record MakesOutputs (before after : Machine) (line len : ℕ) (hops : List Hop) (refused : Bool) (old new : List ℕ) : Type 0 where
+  pub turns : List Turn
+  pub outputs : AreOutputs line 1 len hops (receipts_from 0 turns)
+  pub made : Makes before after turns refused old new
+
+-- exactly the calls of the line were made
+pub record MakesLine (before after : Machine) (l : Line) (refused : Bool) (old new : List ℕ) : Type 0 where
+  pub turns : List Turn
+  pub run : IsRunOf l (receipts_from 0 turns)
+  pub made : Makes before after turns refused old new
+
+-- a line was answered: the text has grown by the lines of its replies
 pub record Answers (before after : Machine) (l : CallLine) (refused : Bool) (old new : Option (List ℕ)) : Type 0 where
-  pub reply : Reply
-  pub may : MayAnswer before after l.call reply
-  pub refusal : refused ≡ is_refusal_of reply
-  pub text : Appends old new (answer_text (at_line l.line) reply)
+  pub turns : List Turn
+  pub run : IsRunOf (line_of l) (receipts_from 0 turns)
+  pub lead : Lead before turns after
+  pub refusal : is_refused turns ≡ refused
+  pub text : Appends old new (turns_text turns)
 
--- a line was answered, and a front of the reply's line was taken
+-- a line was answered, and a front of the lines of its replies was taken
 pub record Stops (before after : Machine) (l : CallLine) (old new : Option (List ℕ)) : Type 0 where
-  pub reply : Reply
-  pub may : MayAnswer before after l.call reply
-  pub part : PartOf (answer_text (at_line l.line) reply) old new
+  pub turns : List Turn
+  pub run : IsRunOf (line_of l) (receipts_from 0 turns)
+  pub lead : Lead before turns after
+  pub part : PartOf (turns_text turns) old new
 
 -- after the lines were read
 abbrev pub Ends : Status → List CallLine → Option (List ℕ) → Option (List ℕ) → Type 0

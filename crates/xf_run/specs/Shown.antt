@@ -1,12 +1,29 @@
 -- What code keeps, as the definitions see it.
-use Rattle.std.specs.Prelude.{List, map}
-use Rattle.xf_types.specs.Batch.{Line, One}
+use Rattle.std.specs.Prelude.{ℕ, List, map}
+use Rattle.xf_types.specs.Batch.{Line, One, Send}
+use Rattle.xf_plain.specs.Built.{IsBuilt}
 use Rattle.xf_run.specs.declared.batch.CallLine.{CallLine}
+use Rattle.xf_run.specs.declared.batch.Task.{Task}
+use Rattle.xf_run.specs.declared.batch.Task.TheVariants as task
 
--- a call with the number of its line
+-- a task with the number of its line
+abbrev pub line_with : ℕ → Task → Line
+line_with n (task.One c) = One n c
+line_with n (task.Send flow len) = Send n flow len
+
+-- a call line
 abbrev pub line_of : CallLine → Line
-line_of l = One l.line l.call
+line_of l = line_with l.line l.task
 
--- the lines of calls
+-- call lines
 abbrev pub lines_shown : List CallLine → List Line
 lines_shown ls = map line_of ls
+
+-- the machine has the calls of the task
+abbrev pub CanDo : Task → Type 0
+CanDo (task.One c) = IsBuilt c
+CanDo (task.Send flow len) = Unit {0}
+
+-- the machine has the calls of the line
+abbrev pub CanRun : CallLine → Type 0
+CanRun l = CanDo l.task

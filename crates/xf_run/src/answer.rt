@@ -1,18 +1,17 @@
 //! One line, answered.
-ghost use Rattle.std.specs.Prelude.{◌≡◌, ◌≤◌, ◌<◌, ◌^◌, [], IfOk, IsErrOf};
+ghost use Rattle.std.specs.Prelude.{◌≡◌, ◌≤◌, ◌<◌, ◌^◌, [], IfOk, IsErrOf, OnOk};
 ghost use Rattle.std.specs.Io.KnownBytes.{Appends};
 ghost use Rattle.xf_io.specs.Causes.{Rose};
-ghost use Rattle.xf_plain.specs.Built.{IsBuilt};
-ghost use Rattle.xf_plain.specs.Growth.{GrowsLittle};
-ghost use Rattle.xf_run.specs.Progress.{Answers, Stops};
+ghost use Rattle.xf_run.specs.Progress.{Answers, GrowsBy, Stops};
+ghost use Rattle.xf_run.specs.Shown.{CanRun};
 ghost use Rattle.xf_run.specs.declared.answer.AnswerFault.TheVariants.{Memory, Write};
 
 use crate::batch::CallLine;
+use crate::calls::make_line;
 use crate::output::write_lines;
 use xf_io::{Failed, Sink};
 use xf_plain::Plain;
-use xf_print::print_answer;
-use xf_types::{NoMemory, Place};
+use xf_types::NoMemory;
 
 #[derive(Debug, Drop)]
 pub enum AnswerFault {
@@ -36,31 +35,27 @@ impl From<Failed> for AnswerFault {
     }
 }
 
-/// Answers a line, and says whether the reply is a refusal. The buffer is for the text of the reply.
+/// Answers a line, and says whether one of its replies is a refusal. All its calls are made before the first line of the
+/// text is offered. The buffer is for the text.
 pub fn answer<K: Sink>(
     machine: &mut Plain,
     line: &CallLine,
     buffer: &mut Vec<u8>,
     out: &mut K,
 ) -> Result<bool, AnswerFault>
-    requires built { IsBuilt line.now.call }
-    requires numbers { machine.old.shown.next_number < 2 ^ 63 }
-    requires sids { machine.old.shown.next_sid < 2 ^ 63 }
+    requires built { CanRun line.now }
+    requires numbers { machine.old.shown.next_number < 2 ^ 62 }
+    requires sids { machine.old.shown.next_sid < 2 ^ 62 }
     ensures ok { IfOk result (λ refused. Answers machine.old machine.new line.now refused (K.text out.old) (K.text out.new)) }
     ensures memory { IsErrOf result AnswerFault.Memory → Appends (K.text out.old) (K.text out.new) [] }
     ensures write { IsErrOf result AnswerFault.Write
         → Stops machine.old machine.new line.now (K.text out.old) (K.text out.new) }
-    ensures grows { GrowsLittle machine.old.shown machine.new.shown }
+    ensures grows { OnOk result (GrowsBy 7 machine.old.shown machine.new.shown) }
     ensures later { K.faults out.old ≤ K.faults out.new }
     ensures cause { IsErrOf result AnswerFault.Write → Rose (K.faults out.old) (K.faults out.new) }
 {
-    let reply = machine.step(&line.call);
     buffer.clear();
-    let at = Place {
-        line: line.line,
-        part: 0,
-    };
-    print_answer(buffer, at, &reply)?;
+    let refused = make_line(machine, line, buffer)?;
     write_lines(out, buffer)?;
-    Ok(reply.is_refusal())
+    Ok(refused)
 }

@@ -1,24 +1,29 @@
 //! The call lines of an input, or its first bad line.
 ghost use Rattle.std.specs.Prelude.{◌≡◌, ◌+◌, ◌≤◌, [], ◌∷◌, ◌++◌, length, take, count_by, All, IfOk, IfErr, OnOk, min, Ok};
-ghost use Rattle.xf_types.specs.Batch.{One};
-ghost use Rattle.xf_plain.specs.Built.{IsBuilt};
 ghost use Rattle.xf_read.specs.Items.{line_item};
-ghost use Rattle.xf_run.specs.Batch.{is_list, is_list_line, is_over, judged, with_call_line, with_item, batch_of, limit};
+ghost use Rattle.xf_run.specs.Batch.{is_list_line, is_over, judged, with_call_line, with_item, batch_of, limit};
 ghost use Rattle.xf_run.specs.Reading.{GivesJudged, GivesLines, GivesBatch};
-ghost use Rattle.xf_run.specs.Shown.{line_of, lines_shown};
+ghost use Rattle.xf_run.specs.Shown.{CanDo, CanRun, line_of, line_with, lines_shown};
 ghost use Rattle.xf_run.specs.declared.batch.BatchFault.TheVariants.{Memory as BatchMemory};
 
 use std::alloc::{AllocFailed, Global};
 use xf_lex::{count_physical, split_line};
 use xf_plain::is_built;
 use xf_read::{Item, ReadFault, Reader};
-use xf_types::{Call, Reason};
+use xf_types::{Call, Flow, Reason};
 
-/// A call with the number of its line.
+/// What a call line asks for: a call, or a flow and an output of so many bytes for each state of its path.
+#[derive(Debug, Drop)]
+pub enum Task {
+    One(Call),
+    Send { flow: Flow, len: u32 },
+}
+
+/// A call line with its number.
 #[derive(Debug, Drop)]
 pub struct CallLine {
     pub line: u64,
-    pub call: Call,
+    pub task: Task,
 }
 
 /// The first bad line of an input.
@@ -50,16 +55,13 @@ const CALLS: usize = 16_384;
 
 const LISTS: usize = 256;
 
-fn lists(call: &Call) -> bool
-    ensures { result ≡ is_list call.now }
-{
-    matches!(call, Call::PolicyList(_) | Call::StateList(_))
-}
-
 fn lists_line(line: &CallLine) -> bool
     ensures { result ≡ is_list_line (line_of line.now) }
 {
-    lists(&line.call)
+    matches!(
+        &line.task,
+        Task::One(Call::PolicyList(_) | Call::StateList(_))
+    )
 }
 
 fn count_lists(lines: &[CallLine]) -> usize
@@ -100,17 +102,18 @@ fn bad(line: u64, reason: Reason) -> BatchFault
 }
 
 /// Puts a call line at the end, or refuses it.
-fn push_line(lines: &mut Vec<CallLine>, line: CallLine) -> Result<(), BatchFault>
-    requires built { IsBuilt line.call }
-    requires all_built { All (λ l. IsBuilt l.call) lines.old.items }
-    ensures lines { GivesLines result lines.new (with_call_line (lines_shown lines.old.items) line.line (line_of line)) }
+fn push_line(lines: &mut Vec<CallLine>, line: u64, task: Task) -> Result<(), BatchFault>
+    requires built { CanDo task }
+    requires all_built { All CanRun lines.old.items }
+    ensures lines { GivesLines result lines.new (with_call_line (lines_shown lines.old.items) line (line_with line task)) }
     ensures count { OnOk result (length lines.new.items ≤ length lines.old.items + 1) }
-    ensures built { All (λ l. IsBuilt l.call) lines.new.items }
+    ensures built { All CanRun lines.new.items }
 {
-    if is_full(lines, &line) {
-        return Err(bad(line.line, Reason::Phase));
+    let call_line = CallLine { line, task };
+    if is_full(lines, &call_line) {
+        return Err(bad(line, Reason::Phase));
     }
-    lines.push(line)?;
+    lines.push(call_line)?;
     Ok(())
 }
 
@@ -129,18 +132,16 @@ fn front(input: &[u8]) -> &[u8]
 
 /// Puts what a line asks for behind the call lines so far, or refuses the line. `now` is what the clock says.
 fn put_item(lines: &mut Vec<CallLine>, line: u64, item: Item, now: u64) -> Result<(), BatchFault>
-    requires { All (λ l. IsBuilt l.call) lines.old.items }
+    requires { All CanRun lines.old.items }
     ensures item { GivesLines result lines.new (with_item now (lines_shown lines.old.items) line item) }
     ensures count { OnOk result (length lines.new.items ≤ length lines.old.items + 1) }
-    ensures built { All (λ l. IsBuilt l.call) lines.new.items }
+    ensures built { All CanRun lines.new.items }
 {
     match item {
         Item::Nothing => Ok(()),
-        Item::One(call) if is_built(&call) => push_line(lines, CallLine { line, call }),
-        Item::TickNow => {
-            let call = Call::Tick(now);
-            push_line(lines, CallLine { line, call })
-        }
+        Item::One(call) if is_built(&call) => push_line(lines, line, Task::One(call)),
+        Item::TickNow => push_line(lines, line, Task::One(Call::Tick(now))),
+        Item::Send { flow, len } => push_line(lines, line, Task::Send { flow, len }),
         _ => Err(bad(line, Reason::Unsupported)),
     }
 }
@@ -151,7 +152,7 @@ pub fn read_batch(alloc: Global, input: &[u8], now: u64) -> Result<Vec<CallLine>
     ensures batch { GivesBatch result (batch_of now input.now) }
     ensures within { OnOk result (length input.now ≤ limit) }
     ensures count { IfOk result (λ v. length v.items ≤ limit) }
-    ensures built { IfOk result (λ v. All (λ l. IsBuilt l.call) v.items) }
+    ensures built { IfOk result (λ v. All CanRun v.items) }
 {
     let mut reader = match Reader::new(alloc) {
         Ok(reader) => reader,

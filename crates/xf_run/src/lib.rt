@@ -3,6 +3,7 @@
 
 mod answer;
 mod batch;
+mod calls;
 mod input;
 mod output;
 mod program;

@@ -13,6 +13,8 @@ const POLICY: &[u8] = b"xfrm policy add src 10.0.0.0/8 dst 0.0.0.0/0 dir out pri
 
 const FLOW: &[u8] = b"flow out src 10.1.2.3 dst 192.0.2.1\n";
 
+const SEND: &[u8] = b"send src 10.1.2.3 dst 192.0.2.1 len 10\n";
+
 const COUNT: &[u8] = b"xfrm policy count\n";
 
 const LIST: &[u8] = b"xfrm policy list\n";
@@ -29,11 +31,12 @@ const STATE_COUNT: &[u8] = b"xfrm state count\n";
 const USAGE: &[u8] =
     b"usage: xfrm one | run --workers N [--tries N] [--again] | check | gen --seed N [--workers N]\n";
 
-/// A batch with its words and its faults, and what must come of it.
+/// A batch with its words, the clock's answers and its faults, and what must come of it.
 #[derive(Clone, Copy)]
 struct Case<'a> {
     words: &'a [&'a str],
     lines: &'a [&'a [u8]],
+    seconds: &'a [u64],
     read_fails: &'a [u64],
     write_fails: &'a [u64],
     room: usize,
@@ -46,6 +49,7 @@ fn one<'a>(lines: &'a [&'a [u8]], text: &'a [u8], status: Status) -> Case<'a> {
     Case {
         words: &["one"],
         lines,
+        seconds: &[],
         read_fails: &[],
         write_fails: &[],
         room: 4096,
@@ -79,7 +83,7 @@ fn run<R: Threads + Wait>(
         vec![in alloc; 0u8; case.room]?,
         Vec::from_slice(alloc, case.write_fails)?,
     );
-    let mut clock = ListClock::new(Vec::new(alloc));
+    let mut clock = ListClock::new(Vec::from_slice(alloc, case.seconds)?);
     let status = top(
         rt, alloc, &words, &mut src, &mut sink, &mut clock, &OpenGate,
     );
@@ -671,6 +675,8 @@ fn worked_batches(rt: HostRuntime) -> Result<(), Fail> {
     }
     states(&rt, alloc)?;
     packets(&rt, alloc)?;
+    times(&rt, alloc)?;
+    sends(&rt, alloc)?;
     for (i, (line, text, reason)) in BAD.iter().enumerate() {
         let lines = [*line];
         let (status, sink) = run(&rt, alloc, &one(&lines, text, bad(1, *reason)))?;
@@ -1080,6 +1086,137 @@ fn packets<R: Threads + Wait + Abort>(rt: &R, alloc: Global) -> Result<(), Fail>
     check_all(rt, alloc, "packet", &cases)
 }
 
+/// Worked batches on time and limits.
+fn times<R: Threads + Wait + Abort>(rt: &R, alloc: Global) -> Result<(), Fail> {
+    let cases = [
+        // time never goes back
+        one(
+            &[
+                b"tick 5\n",
+                b"tick 3\n",
+                b"tick 18446744073709551615\n",
+                b"tick 0\n",
+            ],
+            b"1: now 5 events 0\n2: now 5 events 0\n3: now 18446744073709551615 events 0\n4: now 18446744073709551615 events 0\n",
+            Status::Done,
+        ),
+        // the clock is asked once, whatever it would say later
+        Case {
+            seconds: &[7, 9],
+            ..one(
+                &[b"tick 6\n", b"tick now\n", b"tick 8\n", b"tick now\n"],
+                b"1: now 6 events 0\n2: now 7 events 0\n3: now 8 events 0\n4: now 8 events 0\n",
+                Status::Done,
+            )
+        },
+        // what is added has the time of its adding
+        one(
+            &[
+                b"tick 11\n",
+                b"xfrm policy add src 10.0.0.0/8 dir out\n",
+                b"xfrm policy get index 9 dir out\n",
+            ],
+            b"1: now 11 events 0\n2: ok index 9\n3: policy 9 dir out ptype main src 10.0.0.0/8 dst 0.0.0.0/0 proto 0 mark 0x00000000 mask 0x00000000 if_id 0 priority 0 action allow added 11\n",
+            Status::Done,
+        ),
+        // a policy's time limits: the soft one is reported once, the hard one removes it
+        one(
+            &[
+                b"xfrm policy add src 10.0.0.0/8 dir out limit time-soft 5 limit time-hard 10\n",
+                b"tick 4\n",
+                b"tick 5\n",
+                b"tick 9\n",
+                FLOW,
+                b"tick 10\n",
+                FLOW,
+            ],
+            b"1: ok index 9\n2: now 4 events 0\n3: now 5 events 1\n3: policy 9 soft\n4: now 9 events 0\n5: policy 9 allow\n6: now 10 events 1\n6: policy 9 expired\n7: none\n",
+            Status::Done,
+        ),
+        // so too a state's
+        one(
+            &[
+                b"xfrm state add dst 192.0.2.2 proto esp spi 0x1000 limit time-soft 5 limit time-hard 10\n",
+                b"tick 5\n",
+                b"tick 9\n",
+                b"tick 10\n",
+                STATE_COUNT,
+            ],
+            b"1: ok sid 1\n2: now 5 events 1\n2: state 1 soft\n3: now 9 events 0\n4: now 10 events 1\n4: state 1 expired\n5: count 0\n",
+            Status::Done,
+        ),
+        // packets up to a hard limit; the one past it removes the state
+        one(
+            &[
+                b"xfrm state add dst 192.0.2.2 proto esp spi 0x1000 replay-window 32 limit packet-hard 2\n",
+                b"packet dst 192.0.2.2 proto esp spi 0x1000 seq 1\n",
+                b"packet dst 192.0.2.2 proto esp spi 0x1000 seq 2\n",
+                b"packet dst 192.0.2.2 proto esp spi 0x1000 seq 3\n",
+                b"packet dst 192.0.2.2 proto esp spi 0x1000 seq 4\n",
+            ],
+            b"1: ok sid 1\n2: accepted top 1\n3: accepted top 2\n4: expired\n5: RTNETLINK answers: No such process\n",
+            Status::Refusals,
+        ),
+        one(
+            &[
+                b"xfrm state add dst 192.0.2.2 proto esp spi 0x1000 replay-window 32 limit byte-hard 0\n",
+                b"packet dst 192.0.2.2 proto esp spi 0x1000 seq 1\n",
+            ],
+            b"1: ok sid 1\n2: expired\n",
+            Status::Done,
+        ),
+        // bytes past a soft limit, which is reported once
+        one(
+            &[
+                b"xfrm state add dst 192.0.2.2 proto esp spi 0x1000 replay-window 32 limit byte-soft 100\n",
+                b"packet dst 192.0.2.2 proto esp spi 0x1000 seq 1 len 60\n",
+                b"packet dst 192.0.2.2 proto esp spi 0x1000 seq 2 len 60\n",
+                b"packet dst 192.0.2.2 proto esp spi 0x1000 seq 3 len 60\n",
+                b"packet dst 192.0.2.2 proto esp spi 0x1000 seq 4 len 60\n",
+                b"packet dst 192.0.2.2 proto esp spi 0x1000 seq 5 len 60 icv bad\n",
+                b"packet dst 192.0.2.2 proto esp spi 0x1000 seq 5 len 60\n",
+            ],
+            b"1: ok sid 1\n2: accepted top 1\n3: accepted top 2\n4: accepted top 3 soft\n5: accepted top 4\n6: icv\n7: accepted top 5\n",
+            Status::Done,
+        ),
+    ];
+    check_all(rt, alloc, "time", &cases)
+}
+
+/// Worked batches on sends.
+fn sends<R: Threads + Wait + Abort>(rt: &R, alloc: Global) -> Result<(), Fail> {
+    let cases = [
+        // a policy without templates; no policy, for a send is a flow that goes out
+        one(
+            &[
+                POLICY,
+                SEND,
+                b"send src 11.1.2.3 dst 192.0.2.1 len 10\n",
+                b"xfrm policy add src 10.0.0.0/8 dir out priority 3 action block\n",
+                SEND,
+            ],
+            b"1: ok index 9\n2: policy 9 allow\n3: none\n4: RTNETLINK answers: File exists\n5: policy 9 allow\n",
+            Status::Refusals,
+        ),
+        one(
+            &[
+                b"xfrm policy add src 10.0.0.0/8 dir in\n",
+                SEND,
+                b"xfrm policy add src 10.0.0.0/8 dir out action block\n",
+                SEND,
+            ],
+            b"1: ok index 8\n2: none\n3: ok index 17\n4: policy 17 block\n",
+            Status::Done,
+        ),
+        // a sink that fails at a send's line
+        Case {
+            write_fails: &[2],
+            ..one(&[POLICY, SEND], b"1: ok index 9\n", Status::WriteFault)
+        },
+    ];
+    check_all(rt, alloc, "send", &cases)
+}
+
 /// As many policies, states, call lines, `list` lines, bytes of a line and bytes of an input as there may be, and one more.
 fn sizes<R: Threads + Wait + Abort>(rt: &R, alloc: Global) -> Result<(), Fail> {
     let (full, text) = full_list(alloc)?;
@@ -1094,6 +1231,20 @@ fn sizes<R: Threads + Wait + Abort>(rt: &R, alloc: Global) -> Result<(), Fail> {
         rt,
         alloc,
         &[&counts, COUNT],
+        text,
+        bad(16_385, Reason::Phase),
+    )?;
+    answers(
+        rt,
+        alloc,
+        &[&counts, SEND],
+        text,
+        bad(16_385, Reason::Phase),
+    )?;
+    answers(
+        rt,
+        alloc,
+        &[&counts, b"tick now\n"],
         text,
         bad(16_385, Reason::Phase),
     )?;

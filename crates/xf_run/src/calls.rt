@@ -1,0 +1,113 @@
+//! The calls of one line, made one after another. The lines of their replies go behind a buffer.
+ghost use Rattle.std.specs.Prelude.{◌≡◌, ◌≤◌, ◌<◌, ◌^◌, length, IfOk, OnOk};
+ghost use Rattle.xf_types.specs.Batch.{Send, path_of};
+ghost use Rattle.xf_plain.specs.Built.{IsBuilt};
+ghost use Rattle.xf_run.specs.Progress.{GrowsBy, MakesCall, MakesLine, MakesOutputs};
+ghost use Rattle.xf_run.specs.Shown.{CanRun, line_of};
+
+use crate::batch::{CallLine, Task};
+use xf_plain::Plain;
+use xf_print::print_answer;
+use xf_types::{Call, Flow, Hop, NoMemory, Place, Reply};
+
+fn make_call(
+    machine: &mut Plain,
+    at: Place,
+    call: &Call,
+    buffer: &mut Vec<u8>,
+) -> Result<Reply, NoMemory>
+    requires built { IsBuilt call.now }
+    requires numbers { machine.old.shown.next_number < 2 ^ 63 }
+    requires sids { machine.old.shown.next_sid < 2 ^ 63 }
+    ensures ok { IfOk result
+        (λ reply. MakesCall machine.old machine.new at call.now reply buffer.old.items buffer.new.items) }
+    ensures grows { OnOk result (GrowsBy 1 machine.old.shown machine.new.shown) }
+{
+    let reply = machine.step(call);
+    print_answer(buffer, at, &reply)?;
+    Ok(reply)
+}
+
+/// The path that a reply gives, if it gives one.
+fn path(reply: &Reply) -> &[Hop]
+    ensures path { result.now ≡ path_of reply.now }
+    ensures few { length result.now ≤ 6 }
+{
+    match reply {
+        Reply::FlowAllow { index: _, path } => path.items.as_slice(),
+        _ => &[],
+    }
+}
+
+/// Makes an output for each hop, in order.
+fn make_outputs(
+    machine: &mut Plain,
+    line: u64,
+    hops: &[Hop],
+    len: u32,
+    buffer: &mut Vec<u8>,
+) -> Result<bool, NoMemory>
+    requires few { length hops.now ≤ 6 }
+    requires numbers { machine.old.shown.next_number ≤ 2 ^ 62 }
+    requires sids { machine.old.shown.next_sid ≤ 2 ^ 62 }
+    ensures ok { IfOk result
+        (λ refused. MakesOutputs machine.old machine.new line len hops.now refused buffer.old.items buffer.new.items) }
+    ensures grows { OnOk result (GrowsBy 6 machine.old.shown machine.new.shown) }
+{
+    let mut refused = false;
+    let mut part = 1;
+    'hops: for hop in hops {
+        let at = Place { line, part };
+        let call = Call::Output { sid: hop.sid, len };
+        let reply = make_call(machine, at, &call, buffer)?;
+        refused = refused | reply.is_refusal();
+        part += 1;
+    }
+    Ok(refused)
+}
+
+/// Makes a flow, and then an output for each hop of the path that it gives.
+fn make_send(
+    machine: &mut Plain,
+    line: u64,
+    flow: Flow,
+    len: u32,
+    buffer: &mut Vec<u8>,
+) -> Result<bool, NoMemory>
+    requires numbers { machine.old.shown.next_number < 2 ^ 62 }
+    requires sids { machine.old.shown.next_sid < 2 ^ 62 }
+    ensures ok { IfOk result
+        (λ refused. MakesLine machine.old machine.new (Send line flow len) refused buffer.old.items buffer.new.items) }
+    ensures grows { OnOk result (GrowsBy 7 machine.old.shown machine.new.shown) }
+{
+    let at = Place { line, part: 0 };
+    let reply = make_call(machine, at, &Call::Flow(flow), buffer)?;
+    let refused = make_outputs(machine, line, path(&reply), len, buffer)?;
+    Ok(reply.is_refusal() | refused)
+}
+
+/// Makes the calls of a line, and says whether one of the replies is a refusal.
+pub fn make_line(
+    machine: &mut Plain,
+    line: &CallLine,
+    buffer: &mut Vec<u8>,
+) -> Result<bool, NoMemory>
+    requires built { CanRun line.now }
+    requires numbers { machine.old.shown.next_number < 2 ^ 62 }
+    requires sids { machine.old.shown.next_sid < 2 ^ 62 }
+    ensures ok { IfOk result
+        (λ refused. MakesLine machine.old machine.new (line_of line.now) refused buffer.old.items buffer.new.items) }
+    ensures grows { OnOk result (GrowsBy 7 machine.old.shown machine.new.shown) }
+{
+    match &line.task {
+        Task::One(call) => {
+            let at = Place {
+                line: line.line,
+                part: 0,
+            };
+            let reply = make_call(machine, at, call, buffer)?;
+            Ok(reply.is_refusal())
+        }
+        Task::Send { flow, len } => make_send(machine, line.line, *flow, *len, buffer),
+    }
+}
