@@ -1,4 +1,6 @@
 //! Worked batches over memory: what is written, and the status.
+mod lifetimes;
+
 use super::*;
 use std::alloc::{AllocError, Global};
 use std::io::Write;
@@ -539,7 +541,7 @@ fn worked_batches(rt: HostRuntime) -> Result<(), Fail> {
                 WEB,
                 b"xfrm policy get index 9 dir out\n",
                 b"xfrm policy get index 8 dir out\n",
-                b"xfrm policy add dir out tmpl proto esp\n",
+                b"worker 1\n",
             ],
             b"bad line 4: unsupported\n",
             bad(4, Reason::Unsupported),
