@@ -1,4 +1,3 @@
-pub mod Built
 pub mod Growth
 pub mod Kept
 pub mod Replacing

@@ -2,7 +2,6 @@
 #![tactic(auto)]
 
 mod aging;
-mod built;
 mod counting;
 mod indices;
 mod listing;
@@ -13,5 +12,4 @@ mod table;
 #[cfg(test)]
 mod tests;
 
-pub use built::is_built;
 pub use plain::Plain;

@@ -1,6 +1,5 @@
 //! The machine and its steps.
 ghost use Rattle.std.specs.Prelude.{◌≡◌, ◌≢◌, ◌<◌, ◌≤◌, ◌^◌, ◌↔◌, length, IfOk, OnOk, OnErr, IsTrue, false};
-ghost use Rattle.xf_plain.specs.Built.{IsBuilt};
 ghost use Rattle.xf_plain.specs.Growth.{GrowsLittle};
 
 mod flows;
@@ -190,7 +189,6 @@ impl Plain {
     /// One step: the reply of the machine, and the machine after it. Where memory runs out the machine stays. No reply comes of
     /// other threads, and the two counters that have no end of their own grow by one at most.
     pub fn step(&mut self, call: &Call) -> Reply
-        requires built { IsBuilt call.now }
         requires numbers { self.old.shown.next_number < 2 ^ 63 }
         requires sids { self.old.shown.next_sid < 2 ^ 63 }
         ensures answer { result ≢ Reply.NoMemory → outcome result self.new ≡ step self.old call.now }

@@ -1,11 +1,10 @@
 -- The batch of an input: the call lines of its one phase, or its first bad line.
-use Rattle.std.specs.Prelude.{ℕ, ◌+◌, ◌^◌, Bool, true, false, not, ◌&&◌, ◌||◌, nat_lt, nat_le, count_by, if◌then◌else◌, List, [], ◌∷◌, ◌++◌, length, take, Result, Ok, Err}
+use Rattle.std.specs.Prelude.{ℕ, ◌+◌, ◌^◌, Bool, true, false, ◌&&◌, ◌||◌, nat_lt, nat_le, count_by, if◌then◌else◌, List, [], ◌∷◌, ◌++◌, length, take, Result, Ok, Err}
 use Rattle.xf_types.specs.declared.call.Call.{Call}
 use Rattle.xf_types.specs.declared.call.Call.TheVariants as call
 use Rattle.xf_types.specs.declared.status.Reason.{Reason}
 use Rattle.xf_types.specs.declared.status.Reason.TheVariants as reason
 use Rattle.xf_types.specs.Batch.{Line, One, Send}
-use Rattle.xf_plain.specs.Built.{is_built}
 use Rattle.xf_read.specs.declared.reader.Item.{Item}
 use Rattle.xf_read.specs.declared.reader.Item.TheVariants as item
 use Rattle.xf_read.specs.Items.{line_item}
@@ -56,8 +55,7 @@ with_call_line calls n l =
 -- the call lines behind what a line asks for, where the clock says this time
 abbrev pub with_item : ℕ → List Line → ℕ → Item → Result (List Line) BadLine
 with_item now calls n item.Nothing = Ok calls
-with_item now calls n (item.One c) =
-    if not (is_built c) then Err (record { line = n; reason = reason.Unsupported }) else with_call_line calls n (One n c)
+with_item now calls n (item.One c) = with_call_line calls n (One n c)
 with_item now calls n (item.Worker worker) = Err (record { line = n; reason = reason.Unsupported })
 with_item now calls n item.Sync = Err (record { line = n; reason = reason.Unsupported })
 with_item now calls n item.TickNow = with_call_line calls n (One n (call.Tick now))

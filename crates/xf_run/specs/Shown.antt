@@ -1,7 +1,6 @@
 -- What code keeps, as the definitions see it.
 use Rattle.std.specs.Prelude.{ℕ, List, map}
 use Rattle.xf_types.specs.Batch.{Line, One, Send}
-use Rattle.xf_plain.specs.Built.{IsBuilt}
 use Rattle.xf_run.specs.declared.batch.CallLine.{CallLine}
 use Rattle.xf_run.specs.declared.batch.Task.{Task}
 use Rattle.xf_run.specs.declared.batch.Task.TheVariants as task
@@ -18,12 +17,3 @@ line_of l = line_with l.line l.task
 -- call lines
 abbrev pub lines_shown : List CallLine → List Line
 lines_shown ls = map line_of ls
-
--- the machine has the calls of the task
-abbrev pub CanDo : Task → Type 0
-CanDo (task.One c) = IsBuilt c
-CanDo (task.Send flow len) = Unit {0}
-
--- the machine has the calls of the line
-abbrev pub CanRun : CallLine → Type 0
-CanRun l = CanDo l.task

@@ -3,7 +3,6 @@ ghost use Rattle.std.specs.Prelude.{◌≡◌, ◌≤◌, ◌<◌, ◌^◌, [], 
 ghost use Rattle.std.specs.Io.KnownBytes.{Appends};
 ghost use Rattle.xf_io.specs.Causes.{Rose};
 ghost use Rattle.xf_run.specs.Progress.{Answers, GrowsBy, Stops};
-ghost use Rattle.xf_run.specs.Shown.{CanRun};
 ghost use Rattle.xf_run.specs.declared.answer.AnswerFault.TheVariants.{Memory, Write};
 
 use crate::batch::CallLine;
@@ -43,7 +42,6 @@ pub fn answer<K: Sink>(
     buffer: &mut Vec<u8>,
     out: &mut K,
 ) -> Result<bool, AnswerFault>
-    requires built { CanRun line.now }
     requires numbers { machine.old.shown.next_number < 2 ^ 62 }
     requires sids { machine.old.shown.next_sid < 2 ^ 62 }
     ensures ok { IfOk result (λ refused. Answers machine.old machine.new line.now refused (K.text out.old) (K.text out.new)) }

@@ -1,14 +1,13 @@
 //! The call lines of an input, or its first bad line.
-ghost use Rattle.std.specs.Prelude.{◌≡◌, ◌+◌, ◌≤◌, [], ◌∷◌, ◌++◌, length, take, count_by, All, IfOk, IfErr, OnOk, min, Ok};
+ghost use Rattle.std.specs.Prelude.{◌≡◌, ◌+◌, ◌≤◌, [], ◌∷◌, ◌++◌, length, take, count_by, IfOk, IfErr, OnOk, min, Ok};
 ghost use Rattle.xf_read.specs.Items.{line_item};
 ghost use Rattle.xf_run.specs.Batch.{is_list_line, is_over, judged, with_call_line, with_item, batch_of, limit};
 ghost use Rattle.xf_run.specs.Reading.{GivesJudged, GivesLines, GivesBatch};
-ghost use Rattle.xf_run.specs.Shown.{CanDo, CanRun, line_of, line_with, lines_shown};
+ghost use Rattle.xf_run.specs.Shown.{line_of, line_with, lines_shown};
 ghost use Rattle.xf_run.specs.declared.batch.BatchFault.TheVariants.{Memory as BatchMemory};
 
 use std::alloc::{AllocFailed, Global};
 use xf_lex::{count_physical, split_line};
-use xf_plain::is_built;
 use xf_read::{Item, ReadFault, Reader};
 use xf_types::{Call, Flow, Reason};
 
@@ -103,11 +102,8 @@ fn bad(line: u64, reason: Reason) -> BatchFault
 
 /// Puts a call line at the end, or refuses it.
 fn push_line(lines: &mut Vec<CallLine>, line: u64, task: Task) -> Result<(), BatchFault>
-    requires built { CanDo task }
-    requires all_built { All CanRun lines.old.items }
     ensures lines { GivesLines result lines.new (with_call_line (lines_shown lines.old.items) line (line_with line task)) }
     ensures count { OnOk result (length lines.new.items ≤ length lines.old.items + 1) }
-    ensures built { All CanRun lines.new.items }
 {
     let call_line = CallLine { line, task };
     if is_full(lines, &call_line) {
@@ -132,17 +128,15 @@ fn front(input: &[u8]) -> &[u8]
 
 /// Puts what a line asks for behind the call lines so far, or refuses the line. `now` is what the clock says.
 fn put_item(lines: &mut Vec<CallLine>, line: u64, item: Item, now: u64) -> Result<(), BatchFault>
-    requires { All CanRun lines.old.items }
     ensures item { GivesLines result lines.new (with_item now (lines_shown lines.old.items) line item) }
     ensures count { OnOk result (length lines.new.items ≤ length lines.old.items + 1) }
-    ensures built { All CanRun lines.new.items }
 {
     match item {
         Item::Nothing => Ok(()),
-        Item::One(call) if is_built(&call) => push_line(lines, line, Task::One(call)),
+        Item::One(call) => push_line(lines, line, Task::One(call)),
         Item::TickNow => push_line(lines, line, Task::One(Call::Tick(now))),
         Item::Send { flow, len } => push_line(lines, line, Task::Send { flow, len }),
-        _ => Err(bad(line, Reason::Unsupported)),
+        Item::Worker(_) | Item::Sync => Err(bad(line, Reason::Unsupported)),
     }
 }
 
@@ -152,7 +146,6 @@ pub fn read_batch(alloc: Global, input: &[u8], now: u64) -> Result<Vec<CallLine>
     ensures batch { GivesBatch result (batch_of now input.now) }
     ensures within { OnOk result (length input.now ≤ limit) }
     ensures count { IfOk result (λ v. length v.items ≤ limit) }
-    ensures built { IfOk result (λ v. All CanRun v.items) }
 {
     let mut reader = match Reader::new(alloc) {
         Ok(reader) => reader,

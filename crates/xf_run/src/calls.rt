@@ -1,9 +1,8 @@
 //! The calls of one line, made one after another. The lines of their replies go behind a buffer.
 ghost use Rattle.std.specs.Prelude.{◌≡◌, ◌≤◌, ◌<◌, ◌^◌, length, IfOk, OnOk};
 ghost use Rattle.xf_types.specs.Batch.{Send, path_of};
-ghost use Rattle.xf_plain.specs.Built.{IsBuilt};
 ghost use Rattle.xf_run.specs.Progress.{GrowsBy, MakesCall, MakesLine, MakesOutputs};
-ghost use Rattle.xf_run.specs.Shown.{CanRun, line_of};
+ghost use Rattle.xf_run.specs.Shown.{line_of};
 
 use crate::batch::{CallLine, Task};
 use xf_plain::Plain;
@@ -16,7 +15,6 @@ fn make_call(
     call: &Call,
     buffer: &mut Vec<u8>,
 ) -> Result<Reply, NoMemory>
-    requires built { IsBuilt call.now }
     requires numbers { machine.old.shown.next_number < 2 ^ 63 }
     requires sids { machine.old.shown.next_sid < 2 ^ 63 }
     ensures ok { IfOk result
@@ -92,7 +90,6 @@ pub fn make_line(
     line: &CallLine,
     buffer: &mut Vec<u8>,
 ) -> Result<bool, NoMemory>
-    requires built { CanRun line.now }
     requires numbers { machine.old.shown.next_number < 2 ^ 62 }
     requires sids { machine.old.shown.next_sid < 2 ^ 62 }
     ensures ok { IfOk result

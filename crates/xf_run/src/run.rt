@@ -1,11 +1,10 @@
 //! A batch on one thread.
-ghost use Rattle.std.specs.Prelude.{◌≡◌, ◌≤◌, All, length};
+ghost use Rattle.std.specs.Prelude.{◌≡◌, ◌≤◌, length};
 ghost use Rattle.std.specs.Io.KnownBytes.{IsAtEnd};
 ghost use Rattle.xf_io.specs.Causes.{Rose};
 ghost use Rattle.xf_run.specs.Batch.{limit};
 ghost use Rattle.xf_run.specs.Outcome.{IsOutcome, IsEnd};
 ghost use Rattle.xf_run.specs.Progress.{Ends, Reports};
-ghost use Rattle.xf_run.specs.Shown.{CanRun};
 
 use crate::answer::{AnswerFault, answer};
 use crate::batch::{BadLine, BatchFault, CallLine, read_batch};
@@ -19,8 +18,7 @@ use xf_types::{NoMemory, Status};
 
 /// Answers the lines in their order, each by a line of its own.
 fn run_lines<K: Sink>(alloc: Global, lines: &[CallLine], out: &mut K) -> Status
-    requires built { All CanRun lines.now }
-    requires count { length lines.now ≤ limit }
+    requires { length lines.now ≤ limit }
     ensures ends { Ends result lines.now (K.text out.old) (K.text out.new) }
     ensures later { K.faults out.old ≤ K.faults out.new }
     ensures write_fault { result ≡ Status.WriteFault → Rose (K.faults out.old) (K.faults out.new) }

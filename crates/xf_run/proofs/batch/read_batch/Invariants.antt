@@ -1,7 +1,7 @@
-use Rattle.std.proofs.Common.{◌≡◌, ◌≤◌, ◌+◌, length, take, All, [], min}
+use Rattle.std.proofs.Common.{◌≡◌, ◌≤◌, ◌+◌, length, take, [], min}
 use Rattle.xf_run.specs.Batch.{batch_from, limit}
 use Rattle.xf_lex.specs.LogicalLines.{lines_of}
-use Rattle.xf_run.specs.Shown.{CanRun, lines_shown}
+use Rattle.xf_run.specs.Shown.{lines_shown}
 use Rattle.xf_run.proofs.batch.read_batch.Given as goal
 
 abbrev pub invariant-reading : goal.invariant-reading
@@ -11,7 +11,6 @@ invariant-reading l = record {
   within : l.before ≤ limit;
   number : l.number ≤ l.before + 1;
   few : length l.lines.items ≤ l.before;
-  built : All CanRun l.lines.items;
 }
 
 abbrev pub decreases-reading : goal.decreases-reading
