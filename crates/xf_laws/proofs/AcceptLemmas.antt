@@ -40,8 +40,11 @@ Knows a x o = x.sid ≡ a.sid → IsKnown x.spec.window o.accepted a.number
 knows-lasts : (a : Accepting) (next : ℕ) → a.sid < next → Lasting (Knows a) next
 knows-lasts a next less =
     record {
-      records = λ x y o sid window r e. subst (λ (w : ℕ). IsKnown w o.accepted a.number) (sym window) (r (sym sid ∙ e));
-      begins = λ x is e. absurd (let same : a.sid ≡ next = sym e ∙ is in omega arith);
+      steady =
+          record {
+            records = λ x y o sid window r e. subst (λ (w : ℕ). IsKnown w o.accepted a.number) (sym window) (r (sym sid ∙ e));
+            begins = λ x is e. absurd (let same : a.sid ≡ next = sym e ∙ is in omega arith);
+          };
       charge = λ x len time o r. r;
       accept = λ x o n r e. known-with x.spec.window n o.accepted a.number (r e);
       send = λ x o more r. r;
@@ -56,7 +59,7 @@ record IsPast (a : Accepting) (m : Machine) : Type 0 where
 past-step : (a : Accepting) (m : Machine) (c : Call) → IsMachine m → IsPast a m → IsPast a (step m c).machine
 past-step a m c h past =
     let later = step-later m c in
-    let kept = step-lasts (Knows a) m c (record { shown = h.shown; own = past.known; lasting = knows-lasts a m.shown.next_sid past.given }) in
+    let kept = step-lasts (Knows a) m c h.shown past.known (knows-lasts a m.shown.next_sid past.given) in
     record { given = (let lt = past.given in let le = later.sid_kept in omega arith); known = kept.own }
 
 -- and so it does after a receipt
@@ -235,7 +238,7 @@ accepts-new m c r a b h past acc e =
     let here = here-of m c r b acc in
     let one = only-one m.shown.states x here h.shown.states.sids in
     let lasting = knows-lasts a m.shown.next_sid past.given in
-    let knows : Knows a x own = own-found (Knows a) m.shown.next_sid lasting x m.shown.states m.own here one past.known in
+    let knows : Knows a x own = own-found (Knows a) m.shown.next_sid lasting.steady x m.shown.states m.own here one past.known in
     let number : a.number ≡ acc.k.seq = ap (λ (y : Accepting). y.number) e ∙ acc.number in
     known-fresh x.spec.window own.accepted a.number acc.window (knows (sym acc.sid ∙ ap (λ (y : Accepting). y.sid) (sym e)))
     (ap (λ (n : ℕ). replay_check x.spec.window own.accepted n) number ∙ acc.takes.fresh)

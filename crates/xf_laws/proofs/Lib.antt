@@ -23,6 +23,9 @@ pub mod MachineLemmas
 pub mod EventLemmas
 pub mod MoveLemmas
 pub mod FoldLemmas
+pub mod BesideLemmas
+pub mod ReadLemmas
+pub mod LeaveLemmas
 pub mod KnownLemmas
 pub mod AcceptLemmas
 pub mod UpdateLemmas

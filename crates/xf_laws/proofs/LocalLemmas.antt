@@ -38,7 +38,7 @@ local_shown s a b x rule e =
     ∙ sym (put_back-shown (beside s b) x (rule s.time x (own_in (beside s b) x)).fate)
 
 -- a change of records that keeps their numbers leaves each own part
-own_of-changed : (sid k : ℕ) (soft : Bool) (ss : List Sa) (os : List Own) (d : Own)
+pub own_of-changed : (sid k : ℕ) (soft : Bool) (ss : List Sa) (os : List Own) (d : Own)
     → own_of k (changed sid (dying_if soft) ss) os d ≡ own_of k ss os d
 own_of-changed sid k soft [] os d = refl
 own_of-changed sid k soft (s ∷ ss) [] d = refl

@@ -1,5 +1,6 @@
 -- Each step keeps what holds of every machine.
-use Rattle.std.proofs.Common.{ℕ, max, true, false, cond, List, [], ◌∷◌}
+use Rattle.std.proofs.Common.{ℕ, max, true, false, cond, List, [], ◌∷◌, find}
+use Rattle.std.specs.List.{AllZip}
 use Rattle.xf_types.specs.declared.call.Call.{Call}
 use Rattle.xf_types.specs.declared.call.Call.TheVariants as call
 use Rattle.xf_types.specs.declared.call.Reply.TheVariants as reply
@@ -7,9 +8,11 @@ use Rattle.xf_types.specs.declared.state.Sa.{Sa}
 use Rattle.xf_types.specs.Machine.{Machine, Own}
 use Rattle.xf_types.specs.Same.{meets_one, same_ptype, same_proto}
 use Rattle.xf_types.specs.PolicyList.{policy_meets}
-use Rattle.xf_types.specs.StateList.{state_meets}
+use Rattle.xf_types.specs.StateList.{state_meets, latest_match, has_sid}
+use Rattle.xf_types.specs.TrafficRules.{packet_at, output_at, id_of_packet}
+use Rattle.xf_types.specs.OneState.{on_found}
 use Rattle.xf_types.specs.Steps.{rule_of, by_rule}
-use Rattle.xf_types.specs.IsMachine.{IsMachine, IsOwnOf}
+use Rattle.xf_types.specs.IsMachine.{IsMachine, IsOwnOf, IsShownPart}
 use Rattle.xf_types.specs.declared.call.Receipt.{Receipt}
 use Rattle.xf_types.specs.History.{Moment, beginning, is_exception, machine_next, next_moment, moment_of, machine_of}
 use Rattle.xf_laws.proofs.KeepLemmas.{policy_add-kept}
@@ -20,38 +23,59 @@ use Rattle.xf_laws.proofs.StateKeepLemmas.{own-of-window, own-new}
 use Rattle.xf_laws.proofs.Lasting.{Lasting, Lasts, HoldsBy}
 use Rattle.xf_laws.proofs.TickKeepLemmas.{at_time-kept}
 
--- each call keeps a fact that lasts
-pub step-lasts : (R : Sa → Own → Type 0) (m : Machine) (c : Call) → Lasts R m → HoldsBy R (by_rule m (rule_of m.shown c)).machine
-step-lasts R m (call.PolicyAdd spec) h = (policy_add-kept R m spec h).after
-step-lasts R m (call.PolicyUpdate spec) h = (policy_update-kept R m spec h).after
-step-lasts R m (call.PolicyDelete key) h = (policy_delete-kept R m key h).after
-step-lasts R m (call.PolicyGet key) h = (policy_get-kept R m key h).after
-step-lasts R m (call.PolicyDeleteAll filter) h = (policies_left-kept R m reply.Done (policy_meets filter) h).after
-step-lasts R m (call.PolicyList filter) h = record { shown = h.shown; own = h.own }
-step-lasts R m (call.PolicyFlush ptype) h = (policies_left-kept R m reply.Done (λ x. meets_one same_ptype ptype x.spec.ptype) h).after
-step-lasts R m call.PolicyCount h = record { shown = h.shown; own = h.own }
-step-lasts R m (call.PolicySet set) h = (policy_set-kept R m set h).after
-step-lasts R m (call.StateAdd spec) h = (state_add-kept R m spec h).after
-step-lasts R m (call.StateUpdate spec) h = (state_update-kept R m spec h).after
-step-lasts R m (call.StateDelete id) h = (state_delete-kept R m id h).after
-step-lasts R m (call.StateGet id) h = (state_get-kept R m id h).after
-step-lasts R m (call.StateDeleteAll filter) h = (left-kept R m reply.Done (state_meets filter) h).after
-step-lasts R m (call.StateList filter) h = record { shown = h.shown; own = h.own }
-step-lasts R m (call.StateFlush proto) h = (left-kept R m reply.Done (λ x. meets_one same_proto proto x.spec.proto) h).after
-step-lasts R m call.StateCount h = record { shown = h.shown; own = h.own }
-step-lasts R m (call.AllocSpi spec) h = (alloc_spi-kept R m spec h).after
-step-lasts R m (call.Flow flow) h = (flow-kept R m flow h).after
-step-lasts R m (call.TryFlow flow) h = (try-kept R m flow h).after
-step-lasts R m (call.Packet k) h = packet-kept R m.shown.next_sid h.lasting m k (record { shown = h.shown; own = h.own })
-step-lasts R m (call.Output sid len) h = output-kept R m.shown.next_sid h.lasting m sid len (record { shown = h.shown; own = h.own })
-step-lasts R m (call.Tick given) h = at_time-kept R m (max m.shown.time given) h
+-- a packet or an output keeps the fact
+abbrev pub KeepsTraffic : (Sa → Own → Type 0) → Machine → Call → Type 0
+KeepsTraffic R m (call.Packet k) =
+    HoldsBy R (on_found m reply.NoState (packet_at k) (latest_match m.shown.states (id_of_packet k))).machine
+KeepsTraffic R m (call.Output sid len) =
+    HoldsBy R (on_found m reply.Stale (output_at len) (find (has_sid sid) m.shown.states)).machine
+KeepsTraffic R m _ = Unit {0}
+
+-- each call keeps a steady fact, where traffic does
+pub step-steady : (R : Sa → Own → Type 0) (m : Machine) (c : Call) → KeepsTraffic R m c → Lasts R m
+    → HoldsBy R (by_rule m (rule_of m.shown c)).machine
+step-steady R m (call.PolicyAdd spec) t h = (policy_add-kept R m spec h).after
+step-steady R m (call.PolicyUpdate spec) t h = (policy_update-kept R m spec h).after
+step-steady R m (call.PolicyDelete key) t h = (policy_delete-kept R m key h).after
+step-steady R m (call.PolicyGet key) t h = (policy_get-kept R m key h).after
+step-steady R m (call.PolicyDeleteAll filter) t h = (policies_left-kept R m reply.Done (policy_meets filter) h).after
+step-steady R m (call.PolicyList filter) t h = record { shown = h.shown; own = h.own }
+step-steady R m (call.PolicyFlush ptype) t h = (policies_left-kept R m reply.Done (λ x. meets_one same_ptype ptype x.spec.ptype) h).after
+step-steady R m call.PolicyCount t h = record { shown = h.shown; own = h.own }
+step-steady R m (call.PolicySet set) t h = (policy_set-kept R m set h).after
+step-steady R m (call.StateAdd spec) t h = (state_add-kept R m spec h).after
+step-steady R m (call.StateUpdate spec) t h = (state_update-kept R m spec h).after
+step-steady R m (call.StateDelete id) t h = (state_delete-kept R m id h).after
+step-steady R m (call.StateGet id) t h = (state_get-kept R m id h).after
+step-steady R m (call.StateDeleteAll filter) t h = (left-kept R m reply.Done (state_meets filter) h).after
+step-steady R m (call.StateList filter) t h = record { shown = h.shown; own = h.own }
+step-steady R m (call.StateFlush proto) t h = (left-kept R m reply.Done (λ x. meets_one same_proto proto x.spec.proto) h).after
+step-steady R m call.StateCount t h = record { shown = h.shown; own = h.own }
+step-steady R m (call.AllocSpi spec) t h = (alloc_spi-kept R m spec h).after
+step-steady R m (call.Flow flow) t h = (flow-kept R m flow h).after
+step-steady R m (call.TryFlow flow) t h = (try-kept R m flow h).after
+step-steady R m (call.Packet k) t h = t
+step-steady R m (call.Output sid len) t h = t
+step-steady R m (call.Tick given) t h = at_time-kept R m (max m.shown.time given) h
+
+-- traffic keeps a fact that lasts
+traffic-lasts : (R : Sa → Own → Type 0) (m : Machine) (c : Call) → HoldsBy R m → Lasting R m.shown.next_sid → KeepsTraffic R m c
+traffic-lasts R m (call.Packet k) h l = packet-kept R m.shown.next_sid l m k h
+traffic-lasts R m (call.Output sid len) h l = output-kept R m.shown.next_sid l m sid len h
+traffic-lasts R m _ h l = tt
+
+-- and so each call keeps it
+pub step-lasts : (R : Sa → Own → Type 0) (m : Machine) (c : Call) → IsShownPart m.shown → AllZip R m.shown.states m.own
+    → Lasting R m.shown.next_sid → HoldsBy R (by_rule m (rule_of m.shown c)).machine
+step-lasts R m c shown own l =
+    step-steady R m c (traffic-lasts R m c (record { shown = shown; own = own }) l)
+    (record { shown = shown; own = own; steady = l.steady })
 
 -- what holds of each own part lasts
 own-lasts : (next : ℕ) → Lasting IsOwnOf next
 own-lasts next =
     record {
-      records = λ x y o sid window. own-of-window x y o window;
-      begins = λ x e. own-new x;
+      steady = record { records = λ x y o sid window. own-of-window x y o window; begins = λ x e. own-new x };
       charge = charged-is;
       accept = accepted-is;
       send = sent-is;
@@ -60,7 +84,7 @@ own-lasts next =
 -- each call
 pub step-kept : (m : Machine) (c : Call) → IsMachine m → IsMachine (by_rule m (rule_of m.shown c)).machine
 step-kept m c h =
-    let k = step-lasts IsOwnOf m c (record { shown = h.shown; own = h.own; lasting = own-lasts m.shown.next_sid }) in
+    let k = step-lasts IsOwnOf m c h.shown h.own (own-lasts m.shown.next_sid) in
     record { shown = k.shown; own = k.own }
 
 -- a receipt outside the table leaves the machine

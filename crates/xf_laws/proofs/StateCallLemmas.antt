@@ -71,7 +71,7 @@ module _ (R : Sa → Own → Type 0) where
               own =
                   own-push R (without leaves m.shown.states) (own_without leaves m.shown.states m.own) (added_record left new) (new_own new.spec)
                   (own-without R leaves m.shown.states m.own h.own)
-                  (h.lasting.begins (added_record left new) refl);
+                  (h.steady.begins (added_record left new) refl);
             };
       }
 
@@ -107,7 +107,7 @@ module _ (R : Sa → Own → Type 0) where
       (λ living.
       placed R m (reply.DoneSid old.sid) shown
       (shown-mapped m.shown change (one-changed (λ x. x.sid) old.sid refresh (λ x. refl)) h.shown)
-      (own-mapped R h.lasting.records change (one-changed (λ x. x.sid) old.sid refresh (λ x. refl)) (one-changed (λ x. x.spec.window) old.sid refresh (λ x. refl)) m.shown.states m.own h.own))
+      (own-mapped R h.steady.records change (one-changed (λ x. x.sid) old.sid refresh (λ x. refl)) (one-changed (λ x. x.spec.window) old.sid refresh (λ x. refl)) m.shown.states m.own h.own))
 
   -- a state is updated
   pub state_update-kept : (m : Machine) (spec : SaSpec) → Lasts R m → Kept R m (s.state_update m.shown spec)

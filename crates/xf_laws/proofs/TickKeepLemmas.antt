@@ -161,6 +161,6 @@ module _ (R : Sa → Own → Type 0) where
                   };
             };
         own =
-            own-later h.lasting.records time pairs
+            own-later h.steady.records time pairs
             (All-filter stays (λ (z : Sa × Own). R z.0 z.1) all (zip-own m.shown.states m.own h.own));
       }

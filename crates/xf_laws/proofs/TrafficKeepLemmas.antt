@@ -17,7 +17,7 @@ use Rattle.xf_types.specs.Lifetime.{Verdict, Fine, Soft, Hard, capped}
 use Rattle.xf_types.specs.TrafficRules as t
 use Rattle.xf_types.specs.OneState.{dying_if, put_back, on_found}
 use Rattle.xf_types.specs.IsMachine.{IsOwnOf}
-use Rattle.xf_laws.proofs.Lasting.{Lasting, HoldsBy}
+use Rattle.xf_laws.proofs.Lasting.{Steady, Lasting, HoldsBy}
 use Rattle.xf_laws.proofs.ReplayLemmas.{told-accepted_with}
 use Rattle.xf_laws.proofs.StateKeepLemmas.{shown-without_states, shown-mapped, own-without, dying-sid, dying-window}
 use Rattle.xf_laws.proofs.StateCallLemmas.{one-changed}
@@ -79,8 +79,8 @@ sent-is x own e h =
     let le = h.sent in
     record { numbers = h.numbers; sent = omega arith; counts = h.counts }
 
--- for a fact that lasts
-module _ (R : Sa → Own → Type 0) (next : ℕ) (l : Lasting R next) where
+-- for a fact that is steady
+module _ (R : Sa → Own → Type 0) (next : ℕ) (steady : Steady R next) where
   -- the own part that a listed state is found to have is that beside it
   pub own-found : (x : Sa) (states : List Sa) (own : List Own) → Contains states x → All (λ y. y.sid ≡ x.sid → y ≡ x) states
       → AllZip R states own → R x (own_of x.sid states own (new_own x.spec))
@@ -104,7 +104,7 @@ module _ (R : Sa → Own → Type 0) (next : ℕ) (l : Lasting R next) where
   own-put-back x o soft is (y ∷ states) (p ∷ own) = λ one h. (
     elim (has_sid x.sid y) as (λ b. has_sid x.sid y ≡ b → R (cond b (dying_if soft y) y) (cond b o p)) [
       | true ↦ λ e.
-          l.records x (dying_if soft y) o
+          steady.records x (dying_if soft y) o
           (dying-sid soft y ∙ eqb-true y.sid x.sid e)
           (dying-window soft y ∙ ap (λ (z : Sa). z.spec.window)
           (All-head (λ (z : Sa). z.sid ≡ x.sid → z ≡ x) y states one (eqb-true y.sid x.sid e)))
@@ -115,15 +115,14 @@ module _ (R : Sa → Own → Type 0) (next : ℕ) (l : Lasting R next) where
   )
 
   -- what becomes of the state leaves it an own part
-  IsFateOf : Sa → t.Fate → Type 0
+  abbrev pub IsFateOf : Sa → t.Fate → Type 0
   IsFateOf x t.Same = Unit {0}
   IsFateOf x t.Ends = Unit {0}
   IsFateOf x (t.Becomes soft own) = R x own
 
   -- the machine after it is one
-  put_back-kept : (m : Machine) (x : Sa) (fate : t.Fate) → HoldsBy R m → Contains m.shown.states x → IsFateOf x fate
+  pub put_back-kept : (m : Machine) (x : Sa) (fate : t.Fate) → HoldsBy R m → Contains m.shown.states x → IsFateOf x fate
       → HoldsBy R (put_back m x fate)
-  unfolding IsFateOf
   put_back-kept m x t.Same h here is = h
   put_back-kept m x t.Ends h here is =
       record {
@@ -139,9 +138,11 @@ module _ (R : Sa → Own → Type 0) (next : ℕ) (l : Lasting R next) where
         own = own-put-back x own soft is m.shown.states m.own (only-one m.shown.states x here h.shown.states.sids) h.own;
       }
 
+-- for a fact that lasts
+module _ (R : Sa → Own → Type 0) (next : ℕ) (l : Lasting R next) where
   -- a treatment that leaves the state an own part
   record LeavesOwn (x : Sa) (r : t.Treated) : Type 0 where
-    fate : IsFateOf x r.fate
+    fate : IsFateOf R next l.steady x r.fate
 
   -- by a test
   one_of : (x : Sa) (b : Bool) (y z : t.Treated) → (b ≡ true → LeavesOwn x y) → (b ≡ false → LeavesOwn x z) → LeavesOwn x (cond b y z)
@@ -151,7 +152,6 @@ module _ (R : Sa → Own → Type 0) (next : ℕ) (l : Lasting R next) where
   -- by the verdict
   limited : (x : Sa) (v : Verdict) (rest : Bool → t.Treated) → ((soft : Bool) → LeavesOwn x (rest soft))
       → LeavesOwn x (t.within_limits x v rest)
-  unfolding IsFateOf
   limited x Hard rest h = record { fate = tt }
   limited x Soft rest h = h (not x.dying)
   limited x Fine rest h = h false
@@ -159,7 +159,6 @@ module _ (R : Sa → Own → Type 0) (next : ℕ) (l : Lasting R next) where
   -- by the window
   windowed : (time : ℕ) (x : Sa) (own : Own) (k : Packet) (n : ℕ) → R x own → (w : Freshness)
       → LeavesOwn x (t.by_window time x own k n w)
-  unfolding IsFateOf
   windowed time x own k n h Zero = record { fate = tt }
   windowed time x own k n h Old = record { fate = tt }
   windowed time x own k n h Seen = record { fate = tt }
@@ -174,7 +173,6 @@ module _ (R : Sa → Own → Type 0) (next : ℕ) (l : Lasting R next) where
 
   -- a packet
   packet-leaves : (k : Packet) (time : ℕ) (x : Sa) (own : Own) → R x own → LeavesOwn x (t.packet_at k time x own)
-  unfolding IsFateOf
   packet-leaves k time x own h =
       one_of x x.larval (t.treated reply.Larval t.Same) (t.by_number time x own k (t.packet_number x own k.seq))
       (λ larval. record { fate = tt })
@@ -182,7 +180,6 @@ module _ (R : Sa → Own → Type 0) (next : ℕ) (l : Lasting R next) where
 
   -- an output
   output-leaves : (len time : ℕ) (x : Sa) (own : Own) → R x own → LeavesOwn x (t.output_at len time x own)
-  unfolding IsFateOf
   output-leaves len time x own h =
       let next : Own = record own { sent = own.sent + 1 } in
       limited x (t.verdict_at time x own) (t.sent_or_overflow time x own len)
@@ -200,8 +197,8 @@ module _ (R : Sa → Own → Type 0) (next : ℕ) (l : Lasting R next) where
   found-kept m missing treat leaves h (Some x) among =
       let here = among x refl in
       let own : Own = own_in m x in
-      let is : R x own = own-found x m.shown.states m.own here (only-one m.shown.states x here h.shown.states.sids) h.own in
-      put_back-kept m x (treat m.shown.time x own).fate h here (leaves m.shown.time x own is).fate
+      let is : R x own = own-found R next l.steady x m.shown.states m.own here (only-one m.shown.states x here h.shown.states.sids) h.own in
+      put_back-kept R next l.steady m x (treat m.shown.time x own).fate h here (leaves m.shown.time x own is).fate
 
   -- a packet to a machine
   pub packet-kept : (m : Machine) (k : Packet) → HoldsBy R m

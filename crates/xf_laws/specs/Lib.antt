@@ -19,6 +19,8 @@ pub mod FirstPolicyLaws
 pub mod LookupLaws
 pub mod StepLaws
 pub mod MoveLaws
+pub mod ReadLaws
+pub mod LeaveLaws
 pub mod AcceptLaws
 pub mod OwnLaws
 pub mod LaterLaws

@@ -3,17 +3,30 @@ ghost use Rattle.xf_laws.specs.AcceptLaws.{AcceptLaws};
 ghost use Rattle.xf_laws.specs.FirstPolicyLaws.{FirstPolicyLaws};
 ghost use Rattle.xf_laws.specs.FreeLaws.{FreeLaws};
 ghost use Rattle.xf_laws.specs.LaterLaws.{LaterLaws};
+ghost use Rattle.xf_laws.specs.LeaveLaws.{LeaveLaws};
 ghost use Rattle.xf_laws.specs.StepLaws.{OneStateLaws, ShownLaws, StepLaws};
 ghost use Rattle.xf_laws.specs.LookupLaws.{LookupLaws};
 ghost use Rattle.xf_laws.specs.MachineLaws.{MachineLaws};
 ghost use Rattle.xf_laws.specs.MoveLaws.{MoveLaws};
 ghost use Rattle.xf_laws.specs.OwnLaws.{OwnLaws};
+ghost use Rattle.xf_laws.specs.ReadLaws.{ReadLaws};
 ghost use Rattle.xf_laws.specs.TestLaws.{EqualityLaws, TestLaws};
 ghost use Rattle.xf_laws.specs.UpdateLaws.{UpdateLaws};
 
 /// A packet or an output reads the shown part and one own part, and changes no other.
 pub fn one_state()
     ensures { OneStateLaws }
+{}
+
+/// A call reads what is shown, the own part of the state that it is for, and where time passes the first uses alone.
+pub fn reads()
+    ensures { ReadLaws }
+{}
+
+/// A call whose reply doesn't move leaves all but the own part of the state that it is for; one that moves leaves the own part of
+/// each other state that stays.
+pub fn leaves()
+    ensures { LeaveLaws }
 {}
 
 /// An answer by the shown part asks no own part.
