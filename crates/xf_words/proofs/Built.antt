@@ -1,24 +1,18 @@
 -- What clap builds of the commands.
 use Rattle.std.proofs.Common.{◌≡◌, ◌∙◌, ◌||◌, ◌++◌, [], ◌∷◌, refl, sym, subst, ap, ap₂, false}
-use Rattle.clap.specs.Simple.{App, Shape, app_of, shape_of, with_subcommand}
+use Rattle.clap.specs.Simple.{App, Shape, app_of, with_subcommand}
 use Rattle.clap.specs.Walk.{Rule, rule_of}
 use Rattle.clap.specs.Built.{AddsArg, AddsSubcommand}
 use Rattle.clap.specs.declared.builder.arg.Arg.{Arg}
 use Rattle.clap.specs.declared.builder.command.Command.{Command}
-use Rattle.clap.specs.declared.builder.command.Command.TheViews.{out-Command as fields_of}
 use Rattle.xf_words.specs.Commands.{command_rows}
-use Rattle.xf_words.specs.Applications.{HasCommands, app_given}
+use Rattle.xf_words.specs.Applications.{HasCommands, IsShaped, app_given}
 
 -- the one place where the tables are looked into
 pub has_commands : (a : App) → a ≡ app_given command_rows → HasCommands command_rows a
 has_commands a e =
     subst (λ (x : App). HasCommands command_rows x) (sym e)
     (record { is_built = refl; no_name = refl; is_simple = refl; is_free = refl; names = refl })
-
--- a command of this shape, no argument of which passes on to another
-pub record IsShaped (c : Command) (s : Shape) : Type 0 where
-  pub shape : shape_of c ≡ s
-  pub local : (fields_of c).has_globals ≡ false
 
 abbrev with_rule : Shape → Rule → Shape
 with_rule s r = record s { rules = s.rules ++ r ∷ [] }

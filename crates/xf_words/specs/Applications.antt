@@ -2,10 +2,12 @@
 use Rattle.std.specs.Prelude.{◌≡◌, ℕ, Bool, true, false, not, ◌&&◌, List, [], ◌∷◌, map, Option, None, Some, is_some, codes, Result, Ok, Err}
 use Rattle.std.specs.List.{fold, find, list_all}
 use Rattle.clap.specs.Walk.{Row, Rule, Text, is_empty, with_default}
-use Rattle.clap.specs.Simple.{App, Shape, built, is_simple, new_rule, new_shape, subcommand_rows_of}
+use Rattle.clap.specs.Simple.{App, Shape, built, is_simple, new_rule, new_shape, shape_of, subcommand_rows_of}
 use Rattle.clap.specs.Faults.{is_simple_and_free}
 use Rattle.clap.specs.declared.builder.action.ArgAction.{ArgAction}
 use Rattle.clap.specs.declared.builder.action.ArgAction.TheVariants.{Set, SetTrue}
+use Rattle.clap.specs.declared.builder.command.Command.{Command}
+use Rattle.clap.specs.declared.builder.command.Command.TheViews.{out-Command as fields_of}
 use Rattle.clap.specs.declared.builder.value_parser.ValueParser.{ValueParser}
 use Rattle.clap.specs.declared.builder.value_parser.ValueParser.TheVariants as parser
 use Rattle.clap.specs.declared.builder.value_parser.Reading.TheVariants as reading
@@ -37,6 +39,11 @@ rule_given o = record (new_rule o.name) {
 -- a command
 abbrev pub shape_given : CommandRow → Shape
 shape_given row = record (new_shape row.name) { rules = map rule_given row.options }
+
+-- clap's command has this shape, and passes no option on to commands below it
+pub record IsShaped (c : Command) (s : Shape) : Type 0 where
+  pub shape : shape_of c ≡ s
+  pub local : (fields_of c).has_globals ≡ false
 
 -- the program, which has these commands
 abbrev pub app_given : List CommandRow → App

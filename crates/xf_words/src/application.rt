@@ -1,10 +1,9 @@
 //! What clap is given: the program with its commands and their options.
 ghost use Rattle.std.specs.Prelude.{◌≡◌, None, IfOk, [], true, false};
 ghost use Rattle.clap.specs.Walk.{rule_of};
-ghost use Rattle.clap.specs.Simple.{app_of, shape_of};
-ghost use Rattle.clap.specs.declared.builder.command.Command.TheViews.{out-Command as fields_of};
+ghost use Rattle.clap.specs.Simple.{app_of};
 ghost use Rattle.xf_words.specs.Commands.{command_rows, gen_row};
-ghost use Rattle.xf_words.specs.Applications.{HasCommands, app_given, rule_given, shape_given};
+ghost use Rattle.xf_words.specs.Applications.{HasCommands, IsShaped, app_given, rule_given, shape_given};
 
 use clap::{Arg, Command};
 use std::alloc::{AllocError, Global};
@@ -20,16 +19,13 @@ fn valued<'a>(alloc: Global, name: &'a str, required: bool) -> Arg<'a>
 
 /// A command that has no options, or none yet.
 fn bare<'a>(alloc: Global, name: &'a str) -> Command<'a>
-    ensures shape { shape_of result
-        ≡ shape_given (record { name = name.entry.now; options = []; asked = λ uses. None }) }
-    ensures local { (fields_of result).has_globals ≡ false }
+    ensures { IsShaped result (shape_given (record { name = name.entry.now; options = []; asked = λ uses. None })) }
 {
     Command::new(alloc, name)
 }
 
 fn gen_command<'a>(alloc: Global) -> Result<Command<'a>, AllocError>
-    ensures shape { IfOk result (λ command. shape_of command ≡ shape_given gen_row) }
-    ensures local { IfOk result (λ command. (fields_of command).has_globals ≡ false) }
+    ensures { IfOk result (λ command. IsShaped command (shape_given gen_row)) }
 {
     let command = bare(alloc, "gen").arg(valued(alloc, "seed", true))?;
     Ok(command)
