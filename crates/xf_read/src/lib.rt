@@ -27,6 +27,7 @@ mod template_tables;
 mod thresholds;
 mod tick;
 mod values;
+mod worker;
 
 pub use fault::ReadFault;
 pub use reader::{Item, Reader};
