@@ -19,3 +19,4 @@ pub mod Ticks
 pub mod Workers
 pub mod Calls
 pub mod Items
+pub mod Unread
