@@ -16,7 +16,7 @@ use Rattle.xf_read.specs.declared.head.Head.{Head}
 use Rattle.xf_read.specs.declared.head.Head.TheVariants as head
 use Rattle.xf_read.specs.declared.policy.TheConstants.{SAME_SLOTS}
 use Rattle.xf_read.specs.declared.reader.Item.{Item}
-use Rattle.xf_read.specs.declared.reader.Item.TheVariants.{One}
+use Rattle.xf_read.specs.declared.reader.Item.TheVariants.{One, Sync}
 use Rattle.xf_read.specs.declared.row.Field.{Field}
 use Rattle.xf_read.specs.declared.row.Slot.TheVariants as slot
 use Rattle.xf_read.specs.Allocs.{alloc_of}
@@ -31,6 +31,7 @@ use Rattle.xf_read.specs.States.{sa_of, sa_id_of, sa_filter_of}
 use Rattle.xf_read.specs.Templates.{templates_of, judged_templates}
 use Rattle.xf_read.specs.Thresholds.{thresholds_of, some_thresholds}
 use Rattle.xf_read.specs.Ticks.{tick_of}
+use Rattle.xf_read.specs.Workers.{worker_of}
 
 -- ---- policies that are added or updated
 
@@ -131,3 +132,5 @@ asked_of (head.Flow dir) fs = flow_of dir fs >>= λ flow. Ok (One (call.Flow flo
 asked_of head.Send fs = send_of fs
 asked_of head.Packet fs = packet_of fs >>= λ packet. Ok (One (call.Packet packet))
 asked_of head.Tick fs = tick_of fs
+asked_of head.Worker fs = worker_of fs
+asked_of head.Sync fs = Ok Sync

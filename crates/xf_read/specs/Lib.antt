@@ -16,5 +16,7 @@ pub mod Allocs
 pub mod Flows
 pub mod Packets
 pub mod Ticks
+pub mod Workers
 pub mod Calls
 pub mod Items
+pub mod Unread

@@ -63,6 +63,7 @@ slot_number slot.Level = 40
 slot_number slot.Min = 41
 slot_number slot.Max = 42
 slot_number slot.Time = 43
+slot_number slot.Worker = 44
 
 -- the group of the line's own words
 abbrev pub own : ℕ

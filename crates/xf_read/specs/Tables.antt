@@ -81,8 +81,11 @@ tables_of (head.Flow dir) = flow.FLOW_TABLES
 tables_of head.Send = flow.SEND_TABLES
 tables_of head.Packet = state.PACKET_TABLES
 tables_of head.Tick = []
+tables_of head.Worker = []
+tables_of head.Sync = []
 
 -- what has to come directly after a head
 abbrev pub first_of : Head → Args
 first_of head.Tick = flow.TICK
+first_of head.Worker = flow.WORKER
 first_of _ = args.None

@@ -13,6 +13,7 @@ use crate::row::Field;
 use crate::state::{read_sa, read_sa_filter, read_sa_id};
 use crate::thresholds::read_thresholds;
 use crate::tick::read_tick;
+use crate::worker::read_worker;
 use xf_types::{Call, Reason};
 
 /// What a line asks for, by its head and its fields.
@@ -43,5 +44,7 @@ pub(crate) fn read_asked(head: Head, fields: &[Field]) -> Result<Item, Reason>
         Head::Send => read_send(fields),
         Head::Packet => Ok(Item::One(Call::Packet(read_packet(fields)?))),
         Head::Tick => read_tick(fields),
+        Head::Worker => read_worker(fields),
+        Head::Sync => Ok(Item::Sync),
     }
 }

@@ -1,4 +1,4 @@
-//! The words that lines of flows, sends and ticks may have.
+//! The words that lines of flows, sends, ticks and workers may have.
 
 use crate::keyword::Keyword;
 use crate::row::{Arg, Args, Meaning, Name, Names, Row, Slot, Table};
@@ -58,6 +58,9 @@ pub(crate) static LENGTH: [Row; 1] = [Row::Once(
 
 // What stands directly after `tick`.
 pub(crate) static TICK: Args = Args::One(Arg::NameOrU64(Slot::Time, Names::Times));
+
+// What stands directly after `worker`.
+pub(crate) static WORKER: Args = Args::One(Arg::U32(Slot::Worker, 0, 15));
 
 pub(crate) static FLOW_TABLES: [Table; 1] = [Table::Flow];
 

@@ -32,6 +32,8 @@ pub(crate) enum Head {
     Send,
     Packet,
     Tick,
+    Worker,
+    Sync,
 }
 
 /// A word of a head: it leads to a table of further words, or ends the head.
@@ -58,8 +60,8 @@ pub(crate) static START: [HeadRow; 7] = [
     HeadRow::Ends(Keyword::Send, Head::Send),
     HeadRow::Ends(Keyword::Packet, Head::Packet),
     HeadRow::Ends(Keyword::Tick, Head::Tick),
-    HeadRow::Unsupported(Keyword::Worker),
-    HeadRow::Unsupported(Keyword::Sync),
+    HeadRow::Ends(Keyword::Worker, Head::Worker),
+    HeadRow::Ends(Keyword::Sync, Head::Sync),
 ];
 
 pub(crate) static XFRM: [HeadRow; 3] = [

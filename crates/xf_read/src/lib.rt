@@ -11,6 +11,7 @@ mod head;
 mod identity;
 mod keyword;
 mod limits;
+mod line_reader;
 mod lookup;
 mod mark;
 mod number;
@@ -27,9 +28,11 @@ mod template_tables;
 mod thresholds;
 mod tick;
 mod values;
+mod worker;
 
 pub use fault::ReadFault;
-pub use reader::{Item, Reader};
+pub use line_reader::LineReader;
+pub use reader::{Item, Reader, Unread};
 
 #[cfg(test)]
 mod tests;

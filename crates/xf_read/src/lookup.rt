@@ -57,6 +57,7 @@ impl Slot {
             Slot::Min => 41,
             Slot::Max => 42,
             Slot::Time => 43,
+            Slot::Worker => 44,
         }
     }
 }

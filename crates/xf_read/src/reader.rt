@@ -1,16 +1,10 @@
-//! The reader of lines.
-ghost use Rattle.std.specs.Prelude.{◌≡◌};
-ghost use Rattle.xf_lex.specs.Gives.{Gives};
-ghost use Rattle.xf_lex.specs.Shown.{shown};
-ghost use Rattle.xf_read.specs.Items.{words_item, line_item};
+//! The reader of a batch: its lines, and what it keeps between phases.
+ghost use Rattle.std.specs.Prelude.{◌≡◌, IfOk};
+ghost use Rattle.xf_read.specs.Unread.{IsFresh};
 
-use crate::call::read_asked;
 use crate::fault::ReadFault;
-use crate::fields::Progress;
-use crate::head::{HeadTable, read_head};
-use crate::tables::{first_in, tables_in};
+use crate::line_reader::LineReader;
 use std::alloc::Global;
-use xf_lex::{LineFault, Scan};
 use xf_types::{Call, Flow, NoMemory};
 
 /// What a line asks for.
@@ -29,61 +23,59 @@ pub enum Item {
     Send { flow: Flow, len: u32 },
 }
 
-/// A reader of lines. Its lists serve one line after another, so that a usual line takes no memory.
+/// What a source gave and no line has taken yet, between the phases of a batch.
+#[derive(Debug, Drop)]
+pub struct Unread {
+    pub bytes: Vec<u8>,
+    /// So many of the first bytes were taken by lines already.
+    pub taken: usize,
+    /// The number of the next physical line, from 1.
+    pub line: u64,
+    /// How many bytes of the input were taken by lines.
+    pub before: u64,
+    /// Nothing more is to be read.
+    pub ended: bool,
+}
+
+impl Unread {
+    fn new(alloc: Global) -> Unread
+        ensures { IsFresh result }
+    {
+        Unread {
+            bytes: Vec::new(alloc),
+            taken: 0,
+            line: 1,
+            before: 0,
+            ended: false,
+        }
+    }
+}
+
+/// A reader of lines, and of a batch's phases.
 #[derive(Debug, Drop)]
 pub struct Reader {
-    alloc: Global,
-    scan: Scan,
-    progress: Progress,
+    pub lines: LineReader,
+    pub unread: Unread,
 }
 
 impl Reader {
     ghost use Rattle.xf_read.specs.Items.{GivesItem, item_of};
 
     /// A reader before its first line.
-    pub fn new(alloc: Global) -> Result<Reader, NoMemory> {
+    pub fn new(alloc: Global) -> Result<Reader, NoMemory>
+        ensures { IfOk result (λ reader. IsFresh reader.unread) }
+    {
         Ok(Reader {
-            alloc,
-            scan: Scan::new(alloc),
-            progress: Progress::new(alloc),
+            lines: LineReader::new(alloc),
+            unread: Unread::new(alloc),
         })
     }
 
-    // The item of a line's words.
-    #[tactic(auto, unfolding(crate::specs::Items::words_item))]
-    fn read_item(&mut self) -> Result<Item, LineFault>
-        ensures { Gives (λ item. item) result (words_item (shown self.old.scan.lexer.words.items)) }
-    {
-        let words = self.scan.lexer.words.as_slice();
-        if words.is_empty() {
-            return Ok(Item::Nothing);
-        }
-        let (head, rest) = read_head(HeadTable::Start, words)?;
-        self.progress
-            .read_fields(tables_in(head), first_in(head), rest)?;
-        Ok(read_asked(head, &self.progress.fields)?)
-    }
-
-    #[tactic(auto, unfolding(crate::specs::Items::line_item))]
-    fn read_line(&mut self, bytes: &[u8]) -> Result<Item, LineFault>
-        ensures { Gives (λ item. item) result (line_item bytes.now) }
-    {
-        self.scan.read_words(self.alloc, bytes)?;
-        self.read_item()
-    }
-
-    /// Reads one logical line, whole or as far as it takes to be long, with or without its line feed. `number` is that of
-    /// its first physical line.
+    /// Reads one logical line, as the reader of lines does.
     pub fn line(&mut self, bytes: &[u8], number: u64) -> Result<Item, ReadFault>
-        ensures { GivesItem result (item_of bytes.now number) }
+        ensures item { GivesItem result (item_of bytes.now number) }
+        ensures unread { self.new.unread ≡ self.old.unread }
     {
-        match self.read_line(bytes) {
-            Ok(item) => Ok(item),
-            Err(LineFault::Bad(reason)) => Err(ReadFault::Bad {
-                line: number,
-                reason,
-            }),
-            Err(LineFault::Memory) => Err(ReadFault::NoMemory),
-        }
+        self.lines.line(bytes, number)
     }
 }

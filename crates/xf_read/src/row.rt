@@ -50,6 +50,7 @@ pub(crate) enum Slot {
     Min,
     Max,
     Time,
+    Worker,
 }
 
 /// A value that was read. `Any` is a prefix of length 0 that has no family of its own, and `Now` the time of the clock.

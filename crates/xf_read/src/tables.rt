@@ -2,7 +2,7 @@
 ghost use Rattle.std.specs.Prelude.{◌≡◌};
 ghost use Rattle.xf_read.specs.Tables.{names_of, rows_of, tables_of, first_of};
 
-use crate::flow_tables::{FLOW, FLOW_TABLES, LENGTH, SEND_TABLES, TICK, TIMES};
+use crate::flow_tables::{FLOW, FLOW_TABLES, LENGTH, SEND_TABLES, TICK, TIMES, WORKER};
 use crate::head::Head;
 use crate::keyword::Keyword;
 use crate::row::{Arg, Args, Meaning, Name, Names, Row, Slot, Table};
@@ -393,6 +393,8 @@ pub(crate) fn tables_in(head: Head) -> &'static [Table]
         Head::Send => &SEND_TABLES,
         Head::Packet => &PACKET_TABLES,
         Head::Tick => &[],
+        Head::Worker => &[],
+        Head::Sync => &[],
     }
 }
 
@@ -402,6 +404,7 @@ pub(crate) fn first_in(head: Head) -> Args
 {
     match head {
         Head::Tick => TICK,
+        Head::Worker => WORKER,
         _ => Args::None,
     }
 }

@@ -31,7 +31,7 @@ const LEXICAL: [(&[u8], Reason); 21] = [
 ];
 
 // A head that is no head, one that is cut short, and one that isn't taken.
-const HEADS: [(&[u8], Reason); 27] = [
+const HEADS: [(&[u8], Reason); 25] = [
     (b"xfrm", Reason::Missing),
     (b"xfrm policy", Reason::Missing),
     (b"xfrm state", Reason::Missing),
@@ -53,8 +53,6 @@ const HEADS: [(&[u8], Reason); 27] = [
     (b"xfrm monitor", Reason::Unsupported),
     (b"xfrm policy setdefault", Reason::Unsupported),
     (b"xfrm policy getdefault x", Reason::Unsupported),
-    (b"worker 0", Reason::Unsupported),
-    (b"sync", Reason::Unsupported),
     (b"xfrm state setdefault", Reason::Word),
     (b"xfrm packet", Reason::Word),
     (b"state add", Reason::Word),

@@ -1,4 +1,4 @@
-//! Bad lines of limits, of requests for a fresh SPI, of sends and of ticks, with their reasons.
+//! Bad lines of limits, of requests for a fresh SPI, of sends, of ticks and of workers, with their reasons.
 
 use crate::fault::ReadFault;
 use crate::tests::reader;
@@ -214,10 +214,52 @@ const TICKS: [(&[u8], Reason); 25] = [
     (b"xfrm tick now", Reason::Word),
 ];
 
+// A worker, and the end of a phase.
+const WORKERS: [(&[u8], Reason); 38] = [
+    (b"worker", Reason::Missing),
+    (b"worker # 0", Reason::Missing),
+    (b"worker x", Reason::Number),
+    (b"worker -1", Reason::Number),
+    (b"worker +1", Reason::Number),
+    (b"worker 00", Reason::Number),
+    (b"worker 01", Reason::Number),
+    (b"worker 0x", Reason::Number),
+    (b"worker 0Xf", Reason::Number),
+    (b"worker ''", Reason::Number),
+    (b"worker now", Reason::Number),
+    (b"worker sync", Reason::Number),
+    (b"worker dev", Reason::Number),
+    (b"worker x 16", Reason::Number),
+    (b"worker 16", Reason::Range),
+    (b"worker 0x10", Reason::Range),
+    (b"worker 4294967296", Reason::Range),
+    (b"worker 99999999999999999999999", Reason::Range),
+    (b"worker 16 x", Reason::Range),
+    (b"worker 0 0", Reason::Word),
+    (b"worker 15 16", Reason::Word),
+    (b"worker 0 dev", Reason::Word),
+    (b"worker 1 sync", Reason::Word),
+    (b"worker 1 xfrm policy count", Reason::Word),
+    (b"workers 0", Reason::Word),
+    (b"Worker 0", Reason::Word),
+    (b"xfrm worker 0", Reason::Word),
+    (b"flow worker", Reason::Word),
+    (b"sync 0", Reason::Word),
+    (b"sync x", Reason::Word),
+    (b"sync now", Reason::Word),
+    (b"sync dev", Reason::Word),
+    (b"sync sync", Reason::Word),
+    (b"sync worker 0", Reason::Word),
+    (b"sync ''", Reason::Word),
+    (b"syncs", Reason::Word),
+    (b"xfrm sync", Reason::Word),
+    (b"flow sync", Reason::Word),
+];
+
 #[test]
 fn bad_request_lines_have_their_reason(rt: HostRuntime) -> Result<(), Fail> {
     let mut reader = reader(rt.alloc())?;
-    let tables: [&[(&[u8], Reason)]; 4] = [&STATE_LIMITS, &ALLOCS, &SENDS, &TICKS];
+    let tables: [&[(&[u8], Reason)]; 5] = [&STATE_LIMITS, &ALLOCS, &SENDS, &TICKS, &WORKERS];
     for table in tables {
         for (line, reason) in table {
             let fault = ReadFault::Bad {

@@ -1,4 +1,4 @@
-//! Lines of states with limits, of requests for a fresh SPI, of sends and of ticks, with what they ask for.
+//! Lines of states with limits, of requests for a fresh SPI, of sends, of ticks and of workers, with what they ask for.
 
 use crate::reader::Item;
 use crate::tests::{between, read, reader, v4};
@@ -244,6 +244,35 @@ fn ticks_are_read(rt: HostRuntime) -> Result<(), Fail> {
     ];
     for (line, now) in numbers {
         assert_eq!(rt; reader.line(line, 1), Ok(Item::One(Call::Tick(now))));
+    }
+    Ok(())
+}
+
+#[test]
+fn workers_are_read(rt: HostRuntime) -> Result<(), Fail> {
+    let mut reader = reader(rt.alloc())?;
+    let cases: [(&[u8], u32); 8] = [
+        (b"worker 0", 0),
+        (b"worker 9", 9),
+        (b"worker 15", 15),
+        (b"worker 0x0", 0),
+        (b"worker 0xf", 15),
+        (b"worker 0xF # x", 15),
+        (b"\tw'orker'  \"1\"0\n", 10),
+        (b"work\\\ner 0x000000000000000e", 14),
+    ];
+    for (line, worker) in cases {
+        assert_eq!(rt; reader.line(line, 1), Ok(Item::Worker(worker)));
+    }
+    Ok(())
+}
+
+#[test]
+fn ends_of_phases_are_read(rt: HostRuntime) -> Result<(), Fail> {
+    let mut reader = reader(rt.alloc())?;
+    let lines: [&[u8]; 4] = [b"sync", b"sync\n", b" 'sync' # x", b"sy\\\nnc"];
+    for line in lines {
+        assert_eq!(rt; reader.line(line, 1), Ok(Item::Sync));
     }
     Ok(())
 }

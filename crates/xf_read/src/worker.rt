@@ -1,0 +1,17 @@
+//! From fields to the worker of the lines that follow.
+ghost use Rattle.std.specs.Prelude.{◌≡◌};
+ghost use Rattle.xf_read.specs.Workers as rule;
+
+use crate::lookup::u32_at;
+use crate::reader::Item;
+use crate::row::{Field, Slot};
+use xf_types::Reason;
+
+/// The worker to which the lines that follow belong.
+#[tactic(auto, unfolding(crate::specs::Workers::worker_of))]
+pub(crate) fn read_worker(fields: &[Field]) -> Result<Item, Reason>
+    ensures { result ≡ rule.worker_of fields.now }
+{
+    let worker = u32_at(fields, Slot::Worker).ok_or(Reason::Missing)?;
+    Ok(Item::Worker(worker))
+}
