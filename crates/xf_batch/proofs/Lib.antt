@@ -1,0 +1,13 @@
+pub mod Lines
+pub mod Threads
+pub mod Gathered
+pub mod Walking
+pub mod LongLines
+pub mod Finding
+pub mod Taking
+pub mod Phasing
+pub mod ThreadSums
+pub mod PhaseEnds
+pub mod GeneratedSizes
+pub mod GeneratedThreads
+pub mod MakingLines

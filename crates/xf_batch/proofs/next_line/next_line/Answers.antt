@@ -1,0 +1,74 @@
+use Rattle.std.proofs.Common.{◌≡◌, ◌+◌, ◌-◌, false, List, ℕ, length, take, drop, nat_le, min, refl, sym, ap, ◌∙◌, subst, arith, length-take, length-append}
+use Rattle.std.proofs.lemmas.List.{take_min}
+use Rattle.xf_batch.specs.Batch.{limit}
+use Rattle.xf_batch.specs.Coming.{room_of}
+use Rattle.xf_batch.specs.Reading.{unread_bytes}
+use Rattle.xf_batch.specs.Scans.{Scans}
+use Rattle.xf_batch.proofs.Lines.{neither}
+use Rattle.xf_batch.proofs.Finding.{Joins, ReadsOn-filled, walked-filled, IsNextLine-joined, IsNextLine-last, IsLongNext-joined, Scans-joined}
+use Rattle.xf_batch.proofs.next_line.next_line.Goals as goal
+
+pub returns-in-Ends-clause-next : goal.returns-in-Ends-clause-next
+returns-in-Ends-clause-next g c =
+    let u = c.search.unread in
+    let seen = c.front-seen.result.now in
+    let kept = c.search.invariant in
+    let piece = take (length seen - c.search.walked) (drop c.search.walked seen) in
+    let joins : Joins (unread_bytes u) seen piece (room_of u) c.search.walked =
+    record { front = c.front-seen.ensures; back = refl; within = kept.within; fits = kept.seen } in
+    let found = c.in-Ends.ensures (take c.search.walked (unread_bytes u)) kept.scans in
+    IsNextLine-joined u (g.S.Source.left c.search.src) seen piece c.search.walked c.in-Ends.size joins found.0 found.1 found.2
+
+pub returns-in-Long-clause-next : goal.returns-in-Long-clause-next
+returns-in-Long-clause-next g c =
+    let u = c.search.unread in
+    let seen = c.front-seen.result.now in
+    let kept = c.search.invariant in
+    let piece = take (length seen - c.search.walked) (drop c.search.walked seen) in
+    let joins : Joins (unread_bytes u) seen piece (room_of u) c.search.walked =
+    record { front = c.front-seen.ensures; back = refl; within = kept.within; fits = kept.seen } in
+    let found = c.in-Long.ensures (take c.search.walked (unread_bytes u)) kept.scans in
+    IsLongNext-joined u (g.S.Source.left c.search.src) seen piece c.search.walked found.0 joins found.1 found.2
+
+pub returns-then-walked-gt0-clause-next : goal.returns-then-walked-gt0-clause-next
+returns-then-walked-gt0-clause-next g c =
+    let u = c.search.unread in
+    let seen = c.front-seen.result.now in
+    let kept = c.search.invariant in
+    let piece = take (length seen - c.search.walked) (drop c.search.walked seen) in
+    let joins : Joins (unread_bytes u) seen piece (room_of u) c.search.walked =
+    record { front = c.front-seen.ensures; back = refl; within = kept.within; fits = kept.seen } in
+    let scans = Scans-joined u c.walk.new.self seen piece c.search.walked joins
+    (c.in-GoesOn.ensures (take c.search.walked (unread_bytes u)) kept.scans) in
+    IsNextLine-last u (g.S.Source.left c.search.src) (length seen) (sym c.is_all.ensures ∙ c.if-is_all.true) (ap length c.front-seen.ensures)
+    c.if-walked-gt0.true scans.goes_on
+
+pub search-preserved : goal.search-preserved
+search-preserved g c =
+    let u = c.search.unread in
+    let seen = c.front-seen.result.now in
+    let kept = c.search.invariant in
+    let filled = c.in_ok-fill.ensures.filled in
+    let piece = take (length seen - c.search.walked) (drop c.search.walked seen) in
+    let joins : Joins (unread_bytes u) seen piece (room_of u) c.search.walked =
+    record { front = c.front-seen.ensures; back = refl; within = kept.within; fits = kept.seen } in
+    let size : length seen ≡ min (room_of u) (length (unread_bytes u)) =
+    ap length c.front-seen.ensures ∙ length-take (room_of u) (unread_bytes u) in
+    let grown : length (unread_bytes c.fill.new.unread) ≡ length (unread_bytes u) + length filled.piece =
+    ap length filled.bytes ∙ length-append (unread_bytes u) filled.piece in
+    let room : room_of c.fill.new.unread ≡ room_of u = ap (λ k. limit + 1 - k) filled.before in
+    let goes_on : u.ended ≡ false = (neither u.ended (nat_le (room_of u) (length (unread_bytes u))) (sym c.is_all.ensures ∙ c.if-is_all.false)).0 in
+    let same : take (room_of u) (unread_bytes u) ≡ take (length seen) (unread_bytes c.fill.new.unread) =
+    sym (walked-filled (unread_bytes u) (unread_bytes c.fill.new.unread) filled.piece (length seen) filled.bytes (omega (arith, size))
+    ∙ ap (λ k. take k (unread_bytes u)) size
+    ∙ take_min (room_of u) (unread_bytes u))
+    in
+    record {
+      read_on = ReadsOn-filled c.args.unread.now u c.fill.new.unread (g.S.Source.left c.args.src.now) (g.S.Source.left c.search.src) (g.S.Source.left c.fill.new.src) goes_on kept.read_on filled;
+      scans = subst (λ (l : List ℕ). Scans l c.walk.new.self) same
+          (Scans-joined u c.walk.new.self seen piece c.search.walked joins
+          (c.in-GoesOn.ensures (take c.search.walked (unread_bytes u)) kept.scans));
+      within = omega (arith, size, grown);
+      seen = omega (arith, size, room);
+      later = omega (arith, kept.later, c.in_ok-fill.ensures.later);
+    }

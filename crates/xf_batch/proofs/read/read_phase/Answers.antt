@@ -1,0 +1,101 @@
+use Rattle.std.proofs.Common.{◌≡◌, true, false, arith, Ok}
+use Rattle.std.proofs.lemmas.Result.{err_from_is_err_and}
+use Rattle.xf_batch.specs.declared.fault.PhaseFault.TheVariants.{ReadFault}
+use Rattle.xf_batch.specs.Batch.{effect_of}
+use Rattle.xf_batch.proofs.Gathered.{threads-count}
+use Rattle.xf_batch.proofs.Phasing.{Reached-start, Reached-more}
+use Rattle.xf_batch.proofs.PhaseEnds.{IsPhaseOf, told-sync, told-refused, told-memory, HasPassed-last, HasPassed-sync, no_source}
+use Rattle.xf_batch.proofs.read.read_phase.Goals as goal
+
+pub returns-in_err-gather-clause-phase : goal.returns-in_err-gather-clause-phase
+returns-in_err-gather-clause-phase g c =
+    let p = err_from_is_err_and c.from_residual.result c.from_residual.ensures.1 in
+    rw (p.1, p.2, c.in_err-gather.ensures.memory) (told-memory c.args.workers c.args.now c.args.r.unread (g.S.Source.left c.args.src.now))
+
+pub returns-in_err-gather-clause-cause : goal.returns-in_err-gather-clause-cause
+returns-in_err-gather-clause-cause g c =
+    let p = err_from_is_err_and c.from_residual.result c.from_residual.ensures.1 in
+    rw (p.1, p.2, c.in_err-gather.ensures.memory) (λ read. absurd cc)
+
+pub lines-init : goal.lines-init
+lines-init g c = record {
+  reached = Reached-start c.args.workers c.args.now c.args.r.unread (g.S.Source.left c.args.src.now) c.in_ok-gather.gather c.in_ok-gather.ensures.gathers c.requires.unread;
+  later = omega arith;
+}
+
+pub put_item-requires : goal.put_item-requires
+put_item-requires g c =
+    let r = c.lines.invariant.reached in
+    omega (arith, c.requires.some, threads-count c.args.workers c.lines.gather r.gathered r.gathers)
+
+pub returns-in_err-put_item-clause-phase : goal.returns-in_err-put_item-clause-phase
+returns-in_err-put_item-clause-phase g c =
+    let p = err_from_is_err_and c.from_residual-in_err-put_item.result c.from_residual-in_err-put_item.ensures.1 in
+    let r = c.lines.invariant.reached in
+    rw (p.1, p.2)
+    (told-refused c.args.workers c.args.now c.args.r.unread c.lines.unread c.next_item.new.unread
+    (g.S.Source.left c.args.src.now) (g.S.Source.left c.lines.src) (g.S.Source.left c.next_item.new.src)
+    c.lines.gather c.put_item.new.self c.in-Some.asked c.in_err-put_item.field-0.0 r (rw c.in-Some.is at c.in_ok-asked.ensures.item)
+    (c.in_err-put_item.ensures c.args.workers r.gathered r.gathers))
+
+pub returns-in_err-put_item-clause-cause : goal.returns-in_err-put_item-clause-cause
+returns-in_err-put_item-clause-cause g c =
+    let p = err_from_is_err_and c.from_residual-in_err-put_item.result c.from_residual-in_err-put_item.ensures.1 in
+    let r = c.lines.invariant.reached in
+    rw (p.1, p.2)
+    (λ read.
+    let same : c.in_err-put_item.field-0.0 ≡ ReadFault = cc in
+    absurd
+    (no_source c.args.workers c.in-Some.asked.line r.gathered (effect_of c.args.now r.gathered c.in-Some.asked.line (Ok c.in-Some.asked.item)) c.put_item.new.self
+    (rw same at (c.in_err-put_item.ensures c.args.workers r.gathered r.gathers))))
+
+pub returns-then-not-branch-clause-phase : goal.returns-then-not-branch-clause-phase
+returns-then-not-branch-clause-phase g c =
+    let r = c.lines.invariant.reached in
+    let is : IsPhaseOf c.put_item.new.self true c.finish-phase.result =
+    record { threads = c.finish-phase.ensures.threads; more = c.finish-phase.ensures.more } in
+    told-sync c.args.workers c.args.now c.args.r.unread c.lines.unread
+    (g.S.Source.left c.args.src.now) (g.S.Source.left c.lines.src) (g.S.Source.left c.next_item.new.src)
+    c.lines.gather c.put_item.new.self c.in-Some.asked _ c.finish-phase.result r (rw c.in-Some.is at c.in_ok-asked.ensures.item)
+    (rw c.if-not-branch.true at (c.in_ok-put_item.ensures c.args.workers r.gathered r.gathers)) is
+
+pub returns-then-not-branch-clause-passed : goal.returns-then-not-branch-clause-passed
+returns-then-not-branch-clause-passed g c =
+    let r = c.lines.invariant.reached in
+    let is : IsPhaseOf c.put_item.new.self true c.finish-phase.result =
+    record { threads = c.finish-phase.ensures.threads; more = c.finish-phase.ensures.more } in
+    HasPassed-sync c.args.workers c.args.now c.args.r.unread c.lines.unread c.next_item.new.unread
+    (g.S.Source.left c.args.src.now) (g.S.Source.left c.lines.src) (g.S.Source.left c.next_item.new.src)
+    c.lines.gather c.put_item.new.self c.in-Some.asked c.finish-phase.result c.requires.some r (rw c.in-Some.is at c.in_ok-asked.ensures.item)
+    (rw c.if-not-branch.true at (c.in_ok-put_item.ensures c.args.workers r.gathered r.gathers)) is
+
+pub returns-then-not-branch-clause-end : goal.returns-then-not-branch-clause-end
+returns-then-not-branch-clause-end g c = λ rightly.
+    let asked = rw c.in-Some.is at c.in_ok-asked.ensures.item in
+    asked.end (c.lines.invariant.reached.end rightly)
+
+pub lines-preserved : goal.lines-preserved
+lines-preserved g c =
+    let r = c.lines.invariant.reached in
+    record {
+      reached =
+          Reached-more c.args.workers c.args.now c.args.r.unread c.lines.unread c.next_item.new.unread
+          (g.S.Source.left c.args.src.now) (g.S.Source.left c.lines.src) (g.S.Source.left c.next_item.new.src)
+          c.lines.gather c.put_item.new.self c.in-Some.asked r (rw c.in-Some.is at c.in_ok-asked.ensures.item)
+          (rw c.if-not-branch.false at (c.in_ok-put_item.ensures c.args.workers r.gathered r.gathers));
+      later = omega (arith, c.lines.invariant.later, c.in_ok-asked.ensures.later);
+    }
+
+pub returns-clause-passed : goal.returns-clause-passed
+returns-clause-passed g c =
+    let r = c.lines.invariant.reached in
+    let is : IsPhaseOf c.lines.gather false c.finish-phase-2.result =
+    record { threads = c.finish-phase-2.ensures.threads; more = c.finish-phase-2.ensures.more } in
+    HasPassed-last c.args.workers c.args.now c.args.r.unread c.lines.unread c.next_item.new.unread
+    (g.S.Source.left c.args.src.now) (g.S.Source.left c.lines.src) (g.S.Source.left c.next_item.new.src)
+    c.lines.gather c.finish-phase-2.result c.requires.some r (rw c.in_default.is at c.in_ok-asked.ensures.item) is
+
+pub returns-clause-end : goal.returns-clause-end
+returns-clause-end g c = λ rightly.
+    let none = rw c.in_default.is at c.in_ok-asked.ensures.item in
+    none.end (c.lines.invariant.reached.end rightly)

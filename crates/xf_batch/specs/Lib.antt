@@ -1,0 +1,11 @@
+pub mod Batch
+pub mod Generated
+pub mod GeneratedCalls
+pub mod LineEnds
+pub mod Scans
+pub mod Making
+pub mod Shown
+pub mod Gathers
+pub mod Reading
+pub mod Coming
+pub mod Asking
