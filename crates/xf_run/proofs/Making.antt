@@ -1,5 +1,5 @@
 -- What calls made one after another come to.
-use Rattle.std.proofs.Common.{◌≡◌, ℕ, ◌+◌, ◌<◌, Bool, true, false, ◌||◌, List, [], ◌∷◌, ◌++◌, length, take, get_or, refl, sym, ap, ◌∙◌, append-nil, append_assoc, arith}
+use Rattle.std.proofs.Common.{◌≡◌, ℕ, ◌+◌, ◌<◌, Bool, true, false, ◌||◌, List, [], ◌∷◌, ◌++◌, length, take, get_or, refl, sym, ap, ◌∙◌, arith}
 use Rattle.std.proofs.lemmas.List.{take_more, length-take-le}
 use Rattle.std.proofs.lemmas.List.Folds.{list_any-append}
 use Rattle.xf_types.specs.declared.call.Call.{Call}
@@ -12,9 +12,9 @@ use Rattle.xf_types.specs.Batch.{One, Send, path_of}
 use Rattle.xf_types.specs.Codes.{is_refusal_of}
 use Rattle.xf_types.specs.Machine.{Machine}
 use Rattle.xf_run.specs.Progress.{MakesCall, Makes, MakesOutputs, MakesLine}
-use Rattle.xf_run.specs.Turns.{Turn, turns_text, is_refused}
-use Rattle.xf_print.specs.Receipts.{answer_text}
-use Rattle.xf_run.proofs.Turning.{Lead-join, AreOutputs-renumber, AreOutputs-more, output_turn, text_join}
+use Rattle.xf_run.specs.Heard.{Heard, hear, hears}
+use Rattle.xf_run.specs.Turns.{Turn, is_refused}
+use Rattle.xf_run.proofs.Turning.{Lead-join, AreOutputs-renumber, AreOutputs-more, output_turn}
 
 -- the turn of a call
 abbrev pub turn_of : Place → Call → Reply → Turn
@@ -24,17 +24,22 @@ or_false : (b : Bool) → (b || false) ≡ b
 or_false true = refl
 or_false false = refl
 
+-- the replies of more turns
+pub hears-join : (h : Heard) (xs ys : List Turn) → hears h (xs ++ ys) ≡ hears (hears h xs) ys
+hears-join h [] ys = refl
+hears-join h (x ∷ xs) ys = hears-join (hear h x.at x.reply) xs ys
+
 -- one call is one turn
-made_one : (m n : Machine) (at : Place) (c : Call) (reply : Reply) (old new : List ℕ) → MakesCall m n at c reply old new
+made_one : (m n : Machine) (at : Place) (c : Call) (reply : Reply) (old new : Heard) → MakesCall m n at c reply old new
     → Makes m n (turn_of at c reply ∷ []) (is_refusal_of reply) old new
 made_one m n at c reply old new k = record {
   lead = (n, k.may, refl);
   refusal = or_false (is_refusal_of reply);
-  text = k.text ∙ ap (λ (x : List ℕ). old ++ x) (sym (append-nil (answer_text at reply)));
+  heard = k.heard;
 }
 
 -- turns behind turns
-made_join : (m mid n : Machine) (xs ys : List Turn) (refused refusal : Bool) (old text new : List ℕ) → Makes m mid xs refused old text
+made_join : (m mid n : Machine) (xs ys : List Turn) (refused refusal : Bool) (old text new : Heard) → Makes m mid xs refused old text
     → Makes mid n ys refusal text new → Makes m n (xs ++ ys) (refused || refusal) old new
 made_join m mid n xs ys refused refusal old text new a b = record {
   lead = Lead-join m mid n xs ys a.lead b.lead;
@@ -42,19 +47,17 @@ made_join m mid n xs ys refused refusal old text new a b = record {
       list_any-append (λ (t : Turn). is_refusal_of t.reply) xs ys
       ∙ ap (λ (r : Bool). r || is_refused ys) a.refusal
       ∙ ap (λ (r : Bool). refused || r) b.refusal;
-  text =
-      b.text ∙ ap (λ (x : List ℕ). x ++ turns_text ys) a.text ∙ append_assoc old (turns_text xs) (turns_text ys)
-      ∙ ap (λ (x : List ℕ). old ++ x) (sym (text_join xs ys));
+  heard = b.heard ∙ ap (λ (x : Heard). hears x ys) a.heard ∙ sym (hears-join old xs ys);
 }
 
 -- no output was made yet
-pub outputs_none : (m : Machine) (line len : ℕ) (text : List ℕ) → MakesOutputs m m line len [] false text text
+pub outputs_none : (m : Machine) (line len : ℕ) (text : Heard) → MakesOutputs m m line len [] false text text
 outputs_none m line len text =
-    record { turns = []; outputs = tt; made = record { lead = refl; refusal = refl; text = sym (append-nil text) } }
+    record { turns = []; outputs = tt; made = record { lead = refl; refusal = refl; heard = refl } }
 
 -- one more output is made
 pub outputs_more : (hops : List Hop) (i : ℕ) (any : Hop) (before m n : Machine) (line part len : ℕ) (reply : Reply) (refused : Bool)
-    (old text new : List ℕ) → i < length hops → part ≡ i + 1
+    (old text new : Heard) → i < length hops → part ≡ i + 1
     → MakesOutputs before m line len (take i hops) refused old text
     → MakesCall m n (record { line = line; part = part }) (call.Output (get_or hops i any).sid len) reply text new
     → MakesOutputs before n line len (take (i + 1) hops) (refused || is_refusal_of reply) old new
@@ -74,7 +77,7 @@ outputs_more hops i any before m n line part len reply refused old text new lt p
     }
 
 -- a flow and its outputs are the calls of a send
-pub send_made : (line len : ℕ) (flow : Flow) (m mid n : Machine) (reply : Reply) (refused : Bool) (old text new : List ℕ)
+pub send_made : (line len : ℕ) (flow : Flow) (m mid n : Machine) (reply : Reply) (refused : Bool) (old text new : Heard)
     → MakesCall m mid (record { line = line; part = 0 }) (call.Flow flow) reply old text
     → MakesOutputs mid n line len (path_of reply) refused text new
     → MakesLine m n (Send line flow len) (is_refusal_of reply || refused) old new
@@ -93,7 +96,7 @@ send_made line len flow m mid n reply refused old text new k o =
     }
 
 -- one call is all of its line
-pub one_made : (line : ℕ) (c : Call) (m n : Machine) (reply : Reply) (old new : List ℕ)
+pub one_made : (line : ℕ) (c : Call) (m n : Machine) (reply : Reply) (old new : Heard)
     → MakesCall m n (record { line = line; part = 0 }) c reply old new → MakesLine m n (One line c) (is_refusal_of reply) old new
 one_made line c m n reply old new k = record {
   turns = turn_of (record { line = line; part = 0 }) c reply ∷ [];

@@ -1,8 +1,9 @@
-pub mod Batch
-pub mod Shown
-pub mod Reading
 pub mod Usage
 pub mod Outcome
 pub mod Turns
+pub mod Heard
 pub mod Progress
+pub mod Phases
+pub mod Check
+pub mod Generated
 pub mod Command

@@ -1,34 +1,26 @@
 -- What each status of a run says.
-use Rattle.std.specs.Prelude.{◌≡◌, ◌⊎◌, ℕ, ◌<◌, ◌^◌, Bool, true, false, List, [], ◌∷◌, ◌++◌, Option, IfSome, Result, Ok, Err}
+use Rattle.std.specs.Prelude.{◌≡◌, ◌⊎◌, ℕ, ◌+◌, ◌<◌, ◌^◌, Bool, true, false, List, [], ◌∷◌, ◌++◌, length, map, Option, None, Some, IfSome}
 use Rattle.std.specs.Io.KnownBytes.{Appends}
-use Rattle.xf_io.specs.Seconds.{ClockGives}
 use Rattle.xf_types.specs.declared.call.Receipt.{Receipt}
+use Rattle.xf_types.specs.declared.status.Reason.{Reason}
 use Rattle.xf_types.specs.declared.status.Status.{Status}
 use Rattle.xf_types.specs.declared.status.Status.TheVariants as status
 use Rattle.xf_types.specs.Steps.{empty}
-use Rattle.xf_types.specs.Batch.{Line, IsShuffle}
-use Rattle.xf_types.specs.History.{IsLegalHistory, IsUncontended, has_refusal}
+use Rattle.xf_types.specs.Batch.{WorkerLine, IsShuffle, threads_of}
+use Rattle.xf_types.specs.History.{AreLegalHistories, IsUncontended, has_refusal, joined}
 use Rattle.xf_types.specs.Acceptance.{AcceptsOnce}
-use Rattle.xf_run.specs.declared.batch.BadLine.{BadLine}
-use Rattle.xf_run.specs.Batch.{batch_of}
+use Rattle.xf_batch.specs.Batch.{Batch, batch_of}
 use Rattle.xf_print.specs.Receipts.{text_of}
 use Rattle.xf_print.specs.BadLine.{bad_line_text}
 
--- a history of one thread: it is legal from the empty machine, its calls are those of the lines, each once and in order, and
--- no reply comes of other threads; so each is what the lists answer there, or want of memory. No state with a replay window
--- accepts a number twice (RFC 4303, 3.4.3)
-pub record IsHistoryOf (lines : List Line) (history : List Receipt) : Type 0 where
-  pub legal : IsLegalHistory (empty 4096 8192) history
-  pub shuffle : IsShuffle ((lines ∷ []) ∷ []) (history ∷ [])
-  pub uncontended : IsUncontended history
-  pub once : AcceptsOnce (empty 4096 8192) history
-
--- all lines were answered: the text has grown by that of a history of them
-pub record Answered (lines : List Line) (refused : Bool) (old new : Option (List ℕ)) : Type 0 where
-  pub history : List Receipt
-  pub is_history : IsHistoryOf lines history
-  pub text : Appends old new (text_of history)
-  pub refusals : has_refusal history ≡ refused
+-- histories of one thread, one for each phase: the first is legal from the empty machine, each further one from the machine that those
+-- before it leave; the calls are those of the phases, each once and in order, and no reply comes of other threads; so each is what the
+-- lists answer there, or want of memory. Over all of them no state with a replay window accepts a number twice (RFC 4303, 3.4.3)
+pub record AreHistoriesOf (phases : List (List WorkerLine)) (histories : List (List Receipt)) : Type 0 where
+  pub legal : AreLegalHistories (empty 4096 8192) histories
+  pub shuffle : IsShuffle (map (threads_of 1) phases) histories
+  pub uncontended : IsUncontended (joined histories)
+  pub once : AcceptsOnce (empty 4096 8192) (joined histories)
 
 -- the text has grown by the front of a text
 pub record PartOf (whole : List ℕ) (old new : Option (List ℕ)) : Type 0 where
@@ -37,56 +29,94 @@ pub record PartOf (whole : List ℕ) (old new : Option (List ℕ)) : Type 0 wher
   pub is_front : front ++ more ≡ whole
   pub text : Appends old new front
 
--- a history of the first of these lines, up to some line
-pub record IsHistoryOfFirst (lines : List Line) (history : List Receipt) : Type 0 where
-  pub first : List Line
-  pub rest : List Line
-  pub is_front : first ++ rest ≡ lines
-  pub is_history : IsHistoryOf first history
+-- the first ones of these phases, the last of them perhaps cut off behind one of its lines
+abbrev pub AreFirst : List (List WorkerLine) → List (List WorkerLine) → Type 0
+AreFirst [] phases = Unit {0}
+AreFirst (p ∷ ps) [] = ⊥
+AreFirst (p ∷ []) (q ∷ qs) = (rest : List WorkerLine) × (p ++ rest ≡ q)
+AreFirst (p ∷ next ∷ ps) (q ∷ qs) = (p ≡ q) × AreFirst (next ∷ ps) qs
 
--- the text has grown by a front of that of a history of the first lines
-pub record IsCutOff (lines : List Line) (old new : Option (List ℕ)) : Type 0 where
-  pub history : List Receipt
-  pub is_history : IsHistoryOfFirst lines history
-  pub part : PartOf (text_of history) old new
+-- all phases were answered: the text has grown by that of histories of them, and by this behind it
+pub record Answered (phases : List (List WorkerLine)) (refused : Bool) (behind : List ℕ) (old new : Option (List ℕ)) : Type 0 where
+  pub histories : List (List Receipt)
+  pub are_histories : AreHistoriesOf phases histories
+  pub text : Appends old new (text_of (joined histories) ++ behind)
+  pub refusals : has_refusal (joined histories) ≡ refused
 
--- the text has grown by that of a history of the first lines, whole
-pub record IsCutBetween (lines : List Line) (old new : Option (List ℕ)) : Type 0 where
-  pub history : List Receipt
-  pub is_history : IsHistoryOfFirst lines history
-  pub text : Appends old new (text_of history)
+-- the batch has no bad line, the clock was asked once for each of its phases, and all of them were answered
+pub record Ends (b : Batch) (asked : ℕ) (refused : Bool) (old new : Option (List ℕ)) : Type 0 where
+  pub good : b.bad ≡ None
+  pub asked_each : asked ≡ length b.phases
+  pub answered : Answered b.phases refused [] old new
 
--- a write failed: a front of the batch's text stands, or of the text of its first bad line
-abbrev pub WriteFailed : Result (List Line) BadLine → Option (List ℕ) → Option (List ℕ) → Type 0
-WriteFailed (Ok lines) old new = IsCutOff lines old new
-WriteFailed (Err bad) old new = PartOf (bad_line_text bad.line bad.reason) old new
+-- the first bad line is this one: the phases before its own were answered, and its text stands behind theirs
+pub record Reports (b : Batch) (asked line : ℕ) (reason : Reason) (old new : Option (List ℕ)) : Type 0 where
+  pub is_bad : b.bad ≡ Some (record { line = line; reason = reason })
+  pub asked_each : asked ≡ length b.phases + 1
+  pub refused : Bool
+  pub answered : Answered b.phases refused (bad_line_text line reason) old new
 
--- memory ran out: whole lines of the batch's text stand, or nothing where a line is bad
-abbrev pub MemoryRanOut : Result (List Line) BadLine → Option (List ℕ) → Option (List ℕ) → Type 0
-MemoryRanOut (Ok lines) old new = IsCutBetween lines old new
-MemoryRanOut (Err bad) old new = Appends old new []
+-- the first phases were answered, and nothing of the next one
+pub record StopsBetween (b : Batch) (asked : ℕ) (old new : Option (List ℕ)) : Type 0 where
+  pub first : List (List WorkerLine)
+  pub rest : List (List WorkerLine)
+  pub is_front : first ++ rest ≡ b.phases
+  pub asked_each : asked ≡ length first + 1
+  pub refused : Bool
+  pub answered : Answered first refused [] old new
 
--- by what the clock says and the bytes of the input, what the status says of the batch and of the text before and after
-abbrev pub Outcome : Status → ℕ → List ℕ → Option (List ℕ) → Option (List ℕ) → Type 0
-Outcome status.Done now input old new = (lines : List Line) × (batch_of now input ≡ Ok lines) × Answered lines false old new
-Outcome status.Refusals now input old new = (lines : List Line) × (batch_of now input ≡ Ok lines) × Answered lines true old new
-Outcome status.Usage now input old new = ⊥
-Outcome (status.BadLine line reason) now input old new =
-    (batch_of now input ≡ Err (record { line = line; reason = reason })) × Appends old new (bad_line_text line reason)
-Outcome status.ReadFault now input old new = Appends old new []
-Outcome status.WriteFault now input old new = WriteFailed (batch_of now input) old new
-Outcome status.NoMemory now input old new = MemoryRanOut (batch_of now input) old new
+-- the first lines were answered, up to some line, and their text stands whole
+pub record StopsBehindLine (b : Batch) (old new : Option (List ℕ)) : Type 0 where
+  pub first : List (List WorkerLine)
+  pub are_first : AreFirst first b.phases
+  pub refused : Bool
+  pub answered : Answered first refused [] old new
 
--- the same, where the source tells its bytes
-abbrev pub OutcomeOf : Status → ℕ → Option (List ℕ) → Option (List ℕ) → Option (List ℕ) → Type 0
-OutcomeOf s now left old new = IfSome left (λ input. Outcome s now input old new)
+-- a front stands of the text of the first lines
+pub record StopsWithinText (b : Batch) (old new : Option (List ℕ)) : Type 0 where
+  pub first : List (List WorkerLine)
+  pub are_first : AreFirst first b.phases
+  pub histories : List (List Receipt)
+  pub are_histories : AreHistoriesOf first histories
+  pub part : PartOf (text_of (joined histories)) old new
 
--- the clock was asked once, and by its answer, a number of 64 bits, the outcome is this; a clock that tells its answers gave the next one
+-- all phases were answered, and a front stands of the text of the bad line behind them
+pub record StopsWithinReport (b : Batch) (old new : Option (List ℕ)) : Type 0 where
+  pub line : ℕ
+  pub reason : Reason
+  pub is_bad : b.bad ≡ Some (record { line = line; reason = reason })
+  pub histories : List (List Receipt)
+  pub are_histories : AreHistoriesOf b.phases histories
+  pub part : PartOf (text_of (joined histories) ++ bad_line_text line reason) old new
+
+-- what the status says of the batch and of the text before and after, where the clock was asked so often
+abbrev pub Outcome : Status → Batch → ℕ → Option (List ℕ) → Option (List ℕ) → Type 0
+Outcome status.Done b asked old new = Ends b asked false old new
+Outcome status.Refusals b asked old new = Ends b asked true old new
+Outcome status.Usage b asked old new = ⊥
+Outcome (status.BadLine line reason) b asked old new = Reports b asked line reason old new
+Outcome status.ReadFault b asked old new = StopsBetween b asked old new
+Outcome status.WriteFault b asked old new = StopsWithinText b old new ⊎ StopsWithinReport b old new
+Outcome status.NoMemory b asked old new = StopsBehindLine b old new
+
+-- a clock that tells its answers has these left after so many
+abbrev pub HasLeft : Option (ℕ → ℕ) → Option (ℕ → ℕ) → ℕ → Type 0
+HasLeft None later asked = Unit {0}
+HasLeft (Some f) None asked = ⊥
+HasLeft (Some f) (Some g) asked = (k : ℕ) → g k ≡ f (k + asked)
+
+-- the clock's answers, each a number of 64 bits: where it tells them, they are the next ones, and no other was taken
+pub record ClockAnswers (coming later : Option (ℕ → ℕ)) (asked : ℕ) (answers : ℕ → ℕ) : Type 0 where
+  pub in_range : (k : ℕ) → k < asked → answers k < 2 ^ 64
+  pub given : IfSome coming (λ f. (k : ℕ) → k < asked → answers k ≡ f k)
+  pub left : HasLeft coming later asked
+
+-- by the clock's answers, one for each phase that was begun, the outcome is this, where the source tells its bytes
 pub record IsOutcome (s : Status) (coming later : Option (ℕ → ℕ)) (left old new : Option (List ℕ)) : Type 0 where
-  pub now : ℕ
-  pub in_range : now < 2 ^ 64
-  pub asked : ClockGives coming later now
-  pub outcome : OutcomeOf s now left old new
+  pub answers : ℕ → ℕ
+  pub asked : ℕ
+  pub clock : ClockAnswers coming later asked answers
+  pub outcome : IfSome left (λ input. Outcome s (batch_of answers input) asked old new)
 
 -- all was read and answered
 abbrev pub IsEnd : Status → Type 0

@@ -1,28 +1,28 @@
-//! The calls of one line, made one after another. The lines of their replies go behind a buffer.
+//! The calls of one line, made one after another. Their replies are told.
 ghost use Rattle.std.specs.Prelude.{◌≡◌, ◌≤◌, ◌<◌, ◌^◌, length, IfOk, OnOk};
 ghost use Rattle.xf_types.specs.Batch.{Send, path_of};
 ghost use Rattle.xf_run.specs.Progress.{GrowsBy, MakesCall, MakesLine, MakesOutputs};
-ghost use Rattle.xf_run.specs.Shown.{line_of};
+ghost use Rattle.xf_batch.specs.Shown.{line_of};
 
-use crate::batch::{CallLine, Task};
+use crate::teller::Teller;
+use xf_batch::{Job, Task};
 use xf_plain::Plain;
-use xf_print::print_answer;
 use xf_types::{Call, Flow, Hop, NoMemory, Place, Reply};
 
-fn make_call(
+fn make_call<T: Teller>(
     machine: &mut Plain,
     at: Place,
     call: &Call,
-    buffer: &mut Vec<u8>,
+    teller: &mut T,
 ) -> Result<Reply, NoMemory>
     requires numbers { machine.old.shown.next_number < 2 ^ 63 }
     requires sids { machine.old.shown.next_sid < 2 ^ 63 }
     ensures ok { IfOk result
-        (λ reply. MakesCall machine.old machine.new at call.now reply buffer.old.items buffer.new.items) }
+        (λ reply. MakesCall machine.old machine.new at call.now reply (T.heard teller.old) (T.heard teller.new)) }
     ensures grows { OnOk result (GrowsBy 1 machine.old.shown machine.new.shown) }
 {
     let reply = machine.step(call);
-    print_answer(buffer, at, &reply)?;
+    teller.tell(at, &reply)?;
     Ok(reply)
 }
 
@@ -38,18 +38,18 @@ fn path(reply: &Reply) -> &[Hop]
 }
 
 /// Makes an output for each hop, in order.
-fn make_outputs(
+fn make_outputs<T: Teller>(
     machine: &mut Plain,
     line: u64,
     hops: &[Hop],
     len: u32,
-    buffer: &mut Vec<u8>,
+    teller: &mut T,
 ) -> Result<bool, NoMemory>
     requires few { length hops.now ≤ 6 }
     requires numbers { machine.old.shown.next_number ≤ 2 ^ 62 }
     requires sids { machine.old.shown.next_sid ≤ 2 ^ 62 }
     ensures ok { IfOk result
-        (λ refused. MakesOutputs machine.old machine.new line len hops.now refused buffer.old.items buffer.new.items) }
+        (λ refused. MakesOutputs machine.old machine.new line len hops.now refused (T.heard teller.old) (T.heard teller.new)) }
     ensures grows { OnOk result (GrowsBy 6 machine.old.shown machine.new.shown) }
 {
     let mut refused = false;
@@ -57,7 +57,7 @@ fn make_outputs(
     'hops: for hop in hops {
         let at = Place { line, part };
         let call = Call::Output { sid: hop.sid, len };
-        let reply = make_call(machine, at, &call, buffer)?;
+        let reply = make_call(machine, at, &call, teller)?;
         refused = refused | reply.is_refusal();
         part += 1;
     }
@@ -65,46 +65,46 @@ fn make_outputs(
 }
 
 /// Makes a flow, and then an output for each hop of the path that it gives.
-fn make_send(
+fn make_send<T: Teller>(
     machine: &mut Plain,
     line: u64,
     flow: Flow,
     len: u32,
-    buffer: &mut Vec<u8>,
+    teller: &mut T,
 ) -> Result<bool, NoMemory>
     requires numbers { machine.old.shown.next_number < 2 ^ 62 }
     requires sids { machine.old.shown.next_sid < 2 ^ 62 }
     ensures ok { IfOk result
-        (λ refused. MakesLine machine.old machine.new (Send line flow len) refused buffer.old.items buffer.new.items) }
+        (λ refused. MakesLine machine.old machine.new (Send line flow len) refused (T.heard teller.old) (T.heard teller.new)) }
     ensures grows { OnOk result (GrowsBy 7 machine.old.shown machine.new.shown) }
 {
     let at = Place { line, part: 0 };
-    let reply = make_call(machine, at, &Call::Flow(flow), buffer)?;
-    let refused = make_outputs(machine, line, path(&reply), len, buffer)?;
+    let reply = make_call(machine, at, &Call::Flow(flow), teller)?;
+    let refused = make_outputs(machine, line, path(&reply), len, teller)?;
     Ok(reply.is_refusal() | refused)
 }
 
 /// Makes the calls of a line, and says whether one of the replies is a refusal.
-pub fn make_line(
+pub fn make_line<T: Teller>(
     machine: &mut Plain,
-    line: &CallLine,
-    buffer: &mut Vec<u8>,
+    task: &Task,
+    teller: &mut T,
 ) -> Result<bool, NoMemory>
     requires numbers { machine.old.shown.next_number < 2 ^ 62 }
     requires sids { machine.old.shown.next_sid < 2 ^ 62 }
     ensures ok { IfOk result
-        (λ refused. MakesLine machine.old machine.new (line_of line.now) refused buffer.old.items buffer.new.items) }
+        (λ refused. MakesLine machine.old machine.new (line_of task.now) refused (T.heard teller.old) (T.heard teller.new)) }
     ensures grows { OnOk result (GrowsBy 7 machine.old.shown machine.new.shown) }
 {
-    match &line.task {
-        Task::One(call) => {
+    match &task.job {
+        Job::One(call) => {
             let at = Place {
-                line: line.line,
+                line: task.line,
                 part: 0,
             };
-            let reply = make_call(machine, at, call, buffer)?;
+            let reply = make_call(machine, at, call, teller)?;
             Ok(reply.is_refusal())
         }
-        Task::Send { flow, len } => make_send(machine, line.line, *flow, *len, buffer),
+        Job::Send { flow, len } => make_send(machine, task.line, *flow, *len, teller),
     }
 }

@@ -2,13 +2,18 @@
 #![tactic(auto)]
 
 mod answer;
-mod batch;
 mod calls;
-mod input;
+mod check;
+mod generated;
 mod output;
 mod program;
+mod report;
 mod run;
+mod tasks;
+mod teller;
 
+pub use check::run_check;
+pub use generated::run_gen;
 pub use program::top;
 pub use run::run_one;
 

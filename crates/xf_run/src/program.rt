@@ -1,27 +1,21 @@
 //! All that the program does.
-ghost use Rattle.std.specs.Prelude.{◌≡◌};
-ghost use Rattle.std.specs.Bool.{OnTrue, OnFalse};
+ghost use Rattle.std.specs.Prelude.{◌≡◌, true, map, string_bytes, IfSome};
 ghost use Rattle.std.specs.Io.KnownBytes.{IsAtEnd};
 ghost use Rattle.xf_io.specs.Causes.{Rose};
-ghost use Rattle.xf_run.specs.Command.{is_command, Refuses};
-ghost use Rattle.xf_run.specs.Outcome.{IsOutcome, IsEnd};
+ghost use Rattle.xf_words.specs.Commands.{command_of};
+ghost use Rattle.xf_run.specs.Command.{Does, Refuses, reads_input};
+ghost use Rattle.xf_run.specs.Outcome.{IsEnd};
 
+use crate::check::run_check;
+use crate::generated::run_gen;
 use crate::output::write_line;
 use crate::run::run_one;
 use std::alloc::Global;
 use std::sync::Wait;
 use std::thread::Threads;
 use xf_io::{Clock, Failed, Gate, Sink, Source};
-use xf_types::Status;
-
-fn is_one(words: &[String]) -> bool
-    ensures { result ≡ is_command words.now }
-{
-    match words {
-        [word] => word.as_str() == "one",
-        _ => false,
-    }
-}
+use xf_types::{NoMemory, Status};
+use xf_words::{Command, read_command};
 
 /// Writes the usage line.
 #[tactic(auto, unfolding(crate::specs::Usage::usage_text))]
@@ -48,20 +42,21 @@ pub fn top<R: Threads + Wait, S: Source, K: Sink, C: Clock, G: Gate>(
     clock: &mut C,
     _gate: &G,
 ) -> Status
-    // Words that are no command are refused.
-    ensures usage { OnFalse (is_command words.now) (Refuses result (K.text out.old) (K.text out.new)) }
-    // What the status says of the batch and of the text by the clock's answer, where the source tells its bytes.
-    ensures outcome { OnTrue (is_command words.now)
-        (IsOutcome result (C.coming clock.old) (C.coming clock.new) (S.left src.old) (K.text out.old) (K.text out.new)) }
-    // Statuses 0 and 1 come only where the input was read to its end.
-    ensures end { IsEnd result → IsAtEnd (S.left src.new) }
+    // What the status says by the command that the words are: of words that are none, of a batch that is run, of one that is
+    // read, of an input that is made and run.
+    ensures does { Does (command_of (map string_bytes words.now)) result (C.coming clock.old) (C.coming clock.new) (S.left src.old)
+        (K.text out.old) (K.text out.new) }
+    // Statuses 0 and 1 of a batch come only where the input was read to its end.
+    ensures end { IfSome (command_of (map string_bytes words.now)) (λ c. reads_input c ≡ true → IsEnd result → IsAtEnd (S.left src.new)) }
     // Faults come only where the count of the object that was handed in rose.
     ensures read_fault { result ≡ Status.ReadFault → Rose (S.faults src.old) (S.faults src.new) }
     ensures write_fault { result ≡ Status.WriteFault → Rose (K.faults out.old) (K.faults out.new) }
 {
-    if is_one(words) {
-        run_one(alloc, src, out, clock)
-    } else {
-        refuse(out)
+    match read_command(alloc, words) {
+        Ok(Some(Command::One)) => run_one(alloc, src, out, clock),
+        Ok(Some(Command::Check)) => run_check(alloc, src, out),
+        Ok(Some(Command::Gen { seed })) => run_gen(alloc, seed, out),
+        Ok(None) => refuse(out),
+        Err(NoMemory) => Status::NoMemory,
     }
 }

@@ -1,12 +1,67 @@
-//! Worked batches on limits and time, and on flows that go through states.
-use super::{STATE_COUNT, answers, check_all, full_states, one};
-use std::io::Write;
+//! Worked batches on limits and time.
+use super::{Case, FLOW, STATE_COUNT, check_all, one};
 use std::test::Fail;
 use xf_types::Status;
 
 #[test]
 fn limits_and_time(rt: HostRuntime) -> Result<(), Fail> {
     let cases = [
+        // time never goes back
+        one(
+            &[
+                b"tick 5\n",
+                b"tick 3\n",
+                b"tick 18446744073709551615\n",
+                b"tick 0\n",
+            ],
+            b"1: now 5 events 0\n2: now 5 events 0\n3: now 18446744073709551615 events 0\n4: now 18446744073709551615 events 0\n",
+            Status::Done,
+        ),
+        // the clock is asked once for a phase, whatever it would say later
+        Case {
+            seconds: &[7, 9],
+            ..one(
+                &[b"tick 6\n", b"tick now\n", b"tick 8\n", b"tick now\n"],
+                b"1: now 6 events 0\n2: now 7 events 0\n3: now 8 events 0\n4: now 8 events 0\n",
+                Status::Done,
+            )
+        },
+        // what is added has the time of its adding
+        one(
+            &[
+                b"tick 11\n",
+                b"xfrm policy add src 10.0.0.0/8 dir out\n",
+                b"xfrm policy get index 9 dir out\n",
+            ],
+            b"1: now 11 events 0\n2: ok index 9\n3: policy 9 dir out ptype main src 10.0.0.0/8 dst 0.0.0.0/0 proto 0 mark 0x00000000 mask 0x00000000 if_id 0 priority 0 action allow added 11\n",
+            Status::Done,
+        ),
+        // a policy's time limits: the soft one is reported once, the hard one removes it
+        one(
+            &[
+                b"xfrm policy add src 10.0.0.0/8 dir out limit time-soft 5 limit time-hard 10\n",
+                b"tick 4\n",
+                b"tick 5\n",
+                b"tick 9\n",
+                FLOW,
+                b"tick 10\n",
+                FLOW,
+            ],
+            b"1: ok index 9\n2: now 4 events 0\n3: now 5 events 1\n3: policy 9 soft\n4: now 9 events 0\n5: policy 9 allow\n6: now 10 events 1\n6: policy 9 expired\n7: none\n",
+            Status::Done,
+        ),
+        // so too a state's
+        one(
+            &[
+                b"xfrm state add dst 192.0.2.2 proto esp spi 0x1000 limit time-soft 5 limit time-hard 10\n",
+                b"tick 5\n",
+                b"tick 9\n",
+                b"tick 10\n",
+                STATE_COUNT,
+            ],
+            b"1: ok sid 1\n2: now 5 events 1\n2: state 1 soft\n3: now 9 events 0\n4: now 10 events 1\n4: state 1 expired\n5: count 0\n",
+            Status::Done,
+        ),
         // a hard limit ends the state at the packet that meets it; a limit of 0 bytes is one
         one(
             &[
@@ -86,12 +141,6 @@ fn limits_and_time(rt: HostRuntime) -> Result<(), Fail> {
             b"1: now 1 events 0\n2: ok sid 1\n3: now 18446744073709551614 events 0\n4: now 18446744073709551615 events 1\n4: state 1 expired\n",
             Status::Done,
         ),
-        // time does not go back
-        one(
-            &[b"tick 5\n", b"tick 3\n"],
-            b"1: now 5 events 0\n2: now 5 events 0\n",
-            Status::Done,
-        ),
         // what time does is told in the order of the lists, policies first
         one(
             &[
@@ -107,318 +156,4 @@ fn limits_and_time(rt: HostRuntime) -> Result<(), Fail> {
         ),
     ];
     check_all(&rt, rt.alloc(), "limits and time", &cases)
-}
-
-#[test]
-fn flows_through_states(rt: HostRuntime) -> Result<(), Fail> {
-    let cases = [
-        // a state is asked for, waited for, and then used
-        one(
-            &[
-                b"xfrm policy add src 10.0.0.0/8 dst 192.0.2.0/24 dir out tmpl src 198.51.100.1 dst 198.51.100.2 proto esp reqid 7 mode tunnel\n",
-                b"flow out src 10.0.0.1 dst 192.0.2.5\n",
-                b"flow out src 10.0.0.1 dst 192.0.2.5\n",
-                b"xfrm state add src 198.51.100.1 dst 198.51.100.2 proto esp spi 0x2000 reqid 7 mode tunnel seq 1\n",
-                b"flow out src 10.0.0.1 dst 192.0.2.5\n",
-            ],
-            b"1: ok index 9\n2: acquire 1\n3: waiting 1\n4: ok sid 2\n5: policy 9 allow esp 0x00002000 198.51.100.2\n",
-            Status::Done,
-        ),
-        // it is waited for 30 seconds
-        one(
-            &[
-                b"xfrm policy add src 10.0.0.0/8 dst 192.0.2.0/24 dir out tmpl src 198.51.100.1 dst 198.51.100.2 proto esp reqid 7 mode tunnel\n",
-                b"flow out src 10.0.0.1 dst 192.0.2.5\n",
-                b"flow out src 10.0.0.1 dst 192.0.2.5\n",
-                b"tick 30\n",
-                b"flow out src 10.0.0.1 dst 192.0.2.5\n",
-            ],
-            b"1: ok index 9\n2: acquire 1\n3: waiting 1\n4: now 30 events 1\n4: state 1 expired\n5: acquire 2\n",
-            Status::Done,
-        ),
-        one(
-            &[
-                b"xfrm policy add src 10.0.0.0/8 dst 192.0.2.0/24 dir out tmpl src 198.51.100.1 dst 198.51.100.2 proto esp reqid 7 mode tunnel\n",
-                b"flow out src 10.0.0.1 dst 192.0.2.5\n",
-                b"flow out src 10.0.0.1 dst 192.0.2.5\n",
-                b"tick 29\n",
-                b"flow out src 10.0.0.1 dst 192.0.2.5\n",
-            ],
-            b"1: ok index 9\n2: acquire 1\n3: waiting 1\n4: now 29 events 0\n5: waiting 1\n",
-            Status::Done,
-        ),
-        // the last number is sent; a soft limit is newly met by an output without a number
-        one(
-            &[
-                b"xfrm policy add src 10.0.0.0/8 dst 192.0.2.0/24 dir out tmpl proto esp reqid 7\n",
-                b"xfrm state add src 10.0.0.1 dst 192.0.2.5 proto esp spi 0x1000 reqid 7 replay-oseq 0xfffffffe\n",
-                b"send src 10.0.0.1 dst 192.0.2.5 len 10\n",
-                b"send src 10.0.0.1 dst 192.0.2.5 len 10\n",
-            ],
-            b"1: ok index 9\n2: ok sid 1\n3: policy 9 allow esp 0x00001000 192.0.2.5\n3.1: sent esp 0x00001000 seq 4294967295\n4: policy 9 allow esp 0x00001000 192.0.2.5\n4.1: overflow\n",
-            Status::Done,
-        ),
-        one(
-            &[
-                b"xfrm policy add src 10.0.0.0/8 dst 192.0.2.0/24 dir out tmpl proto esp reqid 7\n",
-                b"xfrm state add src 10.0.0.1 dst 192.0.2.5 proto esp spi 0x1000 reqid 7 replay-oseq 0xfffffffe limit packet-soft 1\n",
-                b"send src 10.0.0.1 dst 192.0.2.5 len 10\n",
-                b"send src 10.0.0.1 dst 192.0.2.5 len 10\n",
-            ],
-            b"1: ok index 9\n2: ok sid 1\n3: policy 9 allow esp 0x00001000 192.0.2.5\n3.1: sent esp 0x00001000 seq 4294967295\n4: policy 9 allow esp 0x00001000 192.0.2.5\n4.1: overflow soft\n",
-            Status::Done,
-        ),
-        // a required template behind a skipped one
-        one(
-            &[
-                b"xfrm policy add dir out tmpl proto esp reqid 1 level use tmpl proto ah reqid 2\n",
-                b"flow out src 10.0.0.1 dst 192.0.2.5\n",
-                b"xfrm state add dst 192.0.2.5 proto ah spi 0x10 reqid 2\n",
-                b"flow out src 10.0.0.1 dst 192.0.2.5\n",
-            ],
-            b"1: ok index 9\n2: acquire 1\n3: ok sid 2\n4: policy 9 allow ah 0x00000010 192.0.2.5\n",
-            Status::Done,
-        ),
-        // a tunnel between two transports: the last one goes between its ends
-        one(
-            &[
-                b"xfrm policy add dir out tmpl proto comp reqid 1 tmpl src 198.51.100.1 dst 198.51.100.2 proto esp reqid 2 mode tunnel tmpl proto ah reqid 3\n",
-                b"xfrm state add dst 192.0.2.5 proto comp spi 1 reqid 1\n",
-                b"xfrm state add src 198.51.100.1 dst 198.51.100.2 proto esp spi 2 reqid 2 mode tunnel\n",
-                b"xfrm state add dst 198.51.100.2 proto ah spi 3 reqid 3\n",
-                b"flow out src 10.0.0.1 dst 192.0.2.5\n",
-            ],
-            b"1: ok index 9\n2: ok sid 1\n3: ok sid 2\n4: ok sid 3\n5: policy 9 allow comp 0x00000001 192.0.2.5 esp 0x00000002 198.51.100.2 ah 0x00000003 198.51.100.2\n",
-            Status::Done,
-        ),
-        // a zero source of the other family
-        one(
-            &[
-                b"xfrm policy add dir out tmpl src :: dst 2001:db8::2 proto esp mode tunnel reqid 4\n",
-                b"xfrm state add src 2001:db8::1 dst 2001:db8::2 proto esp spi 4 reqid 4 mode tunnel\n",
-                b"flow out src 10.0.0.1 dst 192.0.2.5\n",
-            ],
-            b"1: ok index 9\n2: ok sid 1\n3: policy 9 allow esp 0x00000004 2001:db8::2\n",
-            Status::Done,
-        ),
-        // a state with wildrecv is no hop
-        one(
-            &[
-                b"xfrm policy add dir out tmpl proto esp reqid 7\n",
-                b"xfrm state add dst 192.0.2.5 proto esp spi 0x10 reqid 7 flag wildrecv\n",
-                b"flow out src 10.0.0.1 dst 192.0.2.5\n",
-            ],
-            b"1: ok index 9\n2: ok sid 1\n3: acquire 1\n",
-            Status::Done,
-        ),
-        // the last of those that were added at one time, and one that is dying after the others
-        one(
-            &[
-                b"xfrm policy add dir out tmpl proto esp reqid 7\n",
-                b"xfrm state add dst 192.0.2.5 proto esp spi 0x10 reqid 7\n",
-                b"xfrm state add dst 192.0.2.5 proto esp spi 0x11 reqid 7\n",
-                b"xfrm state add dst 192.0.2.5 proto esp spi 0x12 reqid 7 limit time-soft 5\n",
-                b"flow out src 10.0.0.1 dst 192.0.2.5\n",
-                b"tick 5\n",
-                b"flow out src 10.0.0.1 dst 192.0.2.5\n",
-            ],
-            b"1: ok index 9\n2: ok sid 1\n3: ok sid 2\n4: ok sid 3\n5: policy 9 allow esp 0x00000012 192.0.2.5\n6: now 5 events 1\n6: state 3 soft\n7: policy 9 allow esp 0x00000011 192.0.2.5\n",
-            Status::Done,
-        ),
-        // the acquire counter passes a number that a state has
-        one(
-            &[
-                b"xfrm state add dst 192.0.2.9 proto ah spi 1 seq 1\n",
-                b"xfrm policy add dir out tmpl proto esp reqid 7\n",
-                b"flow out src 10.0.0.1 dst 192.0.2.5\n",
-                b"flow out src 10.0.0.1 dst 192.0.2.6\n",
-            ],
-            b"1: ok sid 1\n2: ok index 9\n3: acquire 2\n4: acquire 3\n",
-            Status::Done,
-        ),
-        // fresh SPIs of a range, and a packet to one that waits
-        one(
-            &[
-                b"xfrm state allocspi dst 192.0.2.2 proto esp min 0x100 max 0x101\n",
-                b"xfrm state allocspi dst 192.0.2.2 proto esp min 0x100 max 0x101\n",
-                b"xfrm state allocspi dst 192.0.2.2 proto esp min 0x100 max 0x101\n",
-                b"packet dst 192.0.2.2 proto esp spi 0x100 seq 1\n",
-            ],
-            b"1: ok spi 0x00000100 sid 1\n2: ok spi 0x00000101 sid 2\n3: no spi\n4: larval\n",
-            Status::Refusals,
-        ),
-        // a policy with all that its line has
-        one(
-            &[
-                b"xfrm policy add src 2001:DB8:0:0::/32 dst ::/0 proto tcp dport 443 dir out priority 371327 mark 0x2a tmpl src 2001:db8::1 dst 2001:db8::2 proto esp spi 0 reqid 1 mode tunnel\n",
-                b"xfrm policy get index 9 dir out\n",
-                b"xfrm policy get index 8 dir out\n",
-            ],
-            b"1: ok index 9\n2: policy 9 dir out ptype main src 2001:db8::/32 dst ::/0 proto 6 dport 443 mark 0x0000002a mask 0xffffffff if_id 0 priority 371327 action allow added 0 tmpl src 2001:db8::1 dst 2001:db8::2 proto esp spi 0x00000000 mode tunnel reqid 1 level required\n3: RTNETLINK answers: Invalid argument\n",
-            Status::Refusals,
-        ),
-    ];
-    check_all(&rt, rt.alloc(), "flows through states", &cases)
-}
-
-// No state can be asked for where the list is full.
-#[test]
-fn full_list_of_states_is_not_asked(rt: HostRuntime) -> Result<(), Fail> {
-    let (mut input, mut text) = full_states(rt.alloc())?;
-    input.extend_from_slice(b"xfrm policy add dir out tmpl proto esp reqid 7\n")?;
-    input.extend_from_slice(b"flow out src 10.0.0.1 dst 192.0.2.5\n")?;
-    text.extend_from_slice(b"8194: ok index 9\n8195: full live 8192 waiting 0\n")?;
-    answers(&rt, rt.alloc(), &[&input], &text, Status::Refusals)
-}
-
-// A state that is waited for counts for the room of the one that takes its place.
-#[test]
-fn waiting_state_counts_for_the_room(rt: HostRuntime) -> Result<(), Fail> {
-    let mut input = Vec::new(rt.alloc());
-    let mut text = Vec::new(rt.alloc());
-    input.extend_from_slice(b"xfrm policy add dir out tmpl proto esp reqid 7\n")?;
-    input.extend_from_slice(b"flow out src 10.0.0.1 dst 192.0.2.5\n")?;
-    input.extend_from_slice(b"xfrm state allocspi dst 192.0.2.2 proto esp min 256 max 256\n")?;
-    text.extend_from_slice(b"1: ok index 9\n2: acquire 1\n3: ok spi 0x00000100 sid 2\n")?;
-    for i in 0..8190u32 {
-        let (third, fourth, line, sid) = (i / 256, i % 256, i + 4, i + 3);
-        writeln!(
-            input,
-            "xfrm state add dst 10.0.{third}.{fourth} proto esp spi 1"
-        )?;
-        writeln!(text, "{line}: ok sid {sid}")?;
-    }
-    let add = b"xfrm state add dst 192.0.2.5 proto esp spi 9 reqid 7 seq 1\n";
-    input.extend_from_slice(add)?;
-    input.extend_from_slice(b"xfrm state update dst 192.0.2.2 proto esp spi 256\n")?;
-    input.extend_from_slice(b"xfrm state delete dst 10.0.0.0 proto esp spi 1\n")?;
-    input.extend_from_slice(add)?;
-    input.extend_from_slice(b"flow out src 10.0.0.1 dst 192.0.2.5\n")?;
-    text.extend_from_slice(b"8194: full live 8192 waiting 0\n")?;
-    text.extend_from_slice(b"8195: full live 8192 waiting 0\n8196: ok sid 3\n")?;
-    text.extend_from_slice(b"8197: ok sid 8193\n")?;
-    text.extend_from_slice(b"8198: policy 9 allow esp 0x00000009 192.0.2.5\n")?;
-    answers(&rt, rt.alloc(), &[&input], &text, Status::Refusals)
-}
-
-#[test]
-fn limits_by_use_and_ends_of_time(rt: HostRuntime) -> Result<(), Fail> {
-    let cases = [
-        // a packet that isn't accepted is no first use; the soft limit is told once, and then the hard one ends the state
-        one(
-            &[
-                b"xfrm state add dst 192.0.2.2 proto esp spi 0x1000 replay-window 32 limit time-use-soft 10 limit time-use-hard 20\n",
-                b"tick 100\n",
-                b"packet dst 192.0.2.2 proto esp spi 0x1000 seq 1 icv bad\n",
-                b"tick 110\n",
-                b"packet dst 192.0.2.2 proto esp spi 0x1000 seq 1\n",
-                b"tick 119\n",
-                b"tick 120\n",
-                b"packet dst 192.0.2.2 proto esp spi 0x1000 seq 2\n",
-                b"tick 130\n",
-            ],
-            b"1: ok sid 1\n2: now 100 events 0\n3: icv\n4: now 110 events 0\n5: accepted top 1\n6: now 119 events 0\n7: now 120 events 1\n7: state 1 soft\n8: accepted top 2\n9: now 130 events 1\n9: state 1 expired\n",
-            Status::Done,
-        ),
-        // a limit that an update brings is met by the next packet of a state that was used
-        one(
-            &[
-                b"xfrm state add dst 192.0.2.2 proto esp spi 0x1000 replay-window 32\n",
-                b"packet dst 192.0.2.2 proto esp spi 0x1000 seq 1\n",
-                b"tick 5\n",
-                b"xfrm state update dst 192.0.2.2 proto esp spi 0x1000 limit time-use-hard 5\n",
-                b"packet dst 192.0.2.2 proto esp spi 0x1000 seq 2\n",
-                STATE_COUNT,
-            ],
-            b"1: ok sid 1\n2: accepted top 1\n3: now 5 events 0\n4: ok sid 1\n5: expired\n6: count 0\n",
-            Status::Done,
-        ),
-        // and not by the first one of a state that wasn't
-        one(
-            &[
-                b"xfrm state add dst 192.0.2.2 proto esp spi 0x1000 replay-window 32\n",
-                b"tick 5\n",
-                b"xfrm state update dst 192.0.2.2 proto esp spi 0x1000 limit time-use-hard 5\n",
-                b"packet dst 192.0.2.2 proto esp spi 0x1000 seq 1\n",
-                b"tick 9\n",
-                b"tick 10\n",
-            ],
-            b"1: ok sid 1\n2: now 5 events 0\n3: ok sid 1\n4: accepted top 1\n5: now 9 events 0\n6: now 10 events 1\n6: state 1 expired\n",
-            Status::Done,
-        ),
-        // sums of uses and of waiting stop at the greatest number
-        one(
-            &[
-                b"xfrm state add dst 192.0.2.2 proto esp spi 0x1000 limit time-use-hard 18446744073709551615\n",
-                b"tick 5\n",
-                b"packet dst 192.0.2.2 proto esp spi 0x1000 seq 1\n",
-                b"tick 18446744073709551614\n",
-                b"tick 18446744073709551615\n",
-            ],
-            b"1: ok sid 1\n2: now 5 events 0\n3: accepted top 1\n4: now 18446744073709551614 events 0\n5: now 18446744073709551615 events 1\n5: state 1 expired\n",
-            Status::Done,
-        ),
-        one(
-            &[
-                b"xfrm policy add dir out tmpl proto esp reqid 7\n",
-                b"tick 18446744073709551610\n",
-                b"flow out src 10.0.0.1 dst 192.0.2.5\n",
-                b"tick 18446744073709551614\n",
-                b"tick 18446744073709551615\n",
-                b"flow out src 10.0.0.1 dst 192.0.2.5\n",
-            ],
-            b"1: ok index 9\n2: now 18446744073709551610 events 0\n3: acquire 1\n4: now 18446744073709551614 events 0\n5: now 18446744073709551615 events 1\n5: state 1 expired\n6: acquire 2\n",
-            Status::Done,
-        ),
-    ];
-    check_all(&rt, rt.alloc(), "limits by use", &cases)
-}
-
-#[test]
-fn templates_and_sends(rt: HostRuntime) -> Result<(), Fail> {
-    let cases = [
-        // a tunnel that is skipped leaves the flow's addresses to the template behind it; one that isn't gives its own
-        one(
-            &[
-                b"xfrm policy add dir out tmpl src 198.51.100.1 dst 198.51.100.2 proto esp reqid 1 mode tunnel level use tmpl proto ah reqid 2\n",
-                b"xfrm state add dst 192.0.2.5 proto ah spi 0x10 reqid 2\n",
-                b"flow out src 10.0.0.1 dst 192.0.2.5\n",
-                b"xfrm state add src 198.51.100.1 dst 198.51.100.2 proto esp spi 0x20 reqid 1 mode tunnel\n",
-                b"flow out src 10.0.0.1 dst 192.0.2.5\n",
-            ],
-            b"1: ok index 9\n2: ok sid 1\n3: policy 9 allow ah 0x00000010 192.0.2.5\n4: ok sid 2\n5: acquire 1\n",
-            Status::Done,
-        ),
-        // a state that was added later is preferred until it is dying, and then where there is no other
-        one(
-            &[
-                b"xfrm policy add dir out tmpl proto esp reqid 7\n",
-                b"xfrm state add dst 192.0.2.5 proto esp spi 0x10 reqid 7\n",
-                b"tick 3\n",
-                b"xfrm state add dst 192.0.2.5 proto esp spi 0x11 reqid 7 limit time-soft 4\n",
-                b"flow out src 10.0.0.1 dst 192.0.2.5\n",
-                b"tick 7\n",
-                b"flow out src 10.0.0.1 dst 192.0.2.5\n",
-                b"xfrm state delete dst 192.0.2.5 proto esp spi 0x10\n",
-                b"flow out src 10.0.0.1 dst 192.0.2.5\n",
-            ],
-            b"1: ok index 9\n2: ok sid 1\n3: now 3 events 0\n4: ok sid 2\n5: policy 9 allow esp 0x00000011 192.0.2.5\n6: now 7 events 1\n6: state 2 soft\n7: policy 9 allow esp 0x00000010 192.0.2.5\n8: ok sid 1\n9: policy 9 allow esp 0x00000011 192.0.2.5\n",
-            Status::Done,
-        ),
-        // outputs are counted: the soft limit warns once, and the hard one ends the state, so that the next flow asks for another
-        one(
-            &[
-                b"xfrm policy add dir out tmpl proto esp reqid 7\n",
-                b"xfrm state add dst 192.0.2.5 proto esp spi 0x1000 reqid 7 limit packet-soft 1 limit packet-hard 3\n",
-                b"send src 10.0.0.1 dst 192.0.2.5 len 10\n",
-                b"send src 10.0.0.1 dst 192.0.2.5 len 10\n",
-                b"send src 10.0.0.1 dst 192.0.2.5 len 10\n",
-                b"send src 10.0.0.1 dst 192.0.2.5 len 10\n",
-                b"send src 10.0.0.1 dst 192.0.2.5 len 10\n",
-            ],
-            b"1: ok index 9\n2: ok sid 1\n3: policy 9 allow esp 0x00001000 192.0.2.5\n3.1: sent esp 0x00001000 seq 1\n4: policy 9 allow esp 0x00001000 192.0.2.5\n4.1: sent esp 0x00001000 seq 2 soft\n5: policy 9 allow esp 0x00001000 192.0.2.5\n5.1: sent esp 0x00001000 seq 3\n6: policy 9 allow esp 0x00001000 192.0.2.5\n6.1: expired\n7: acquire 1\n",
-            Status::Done,
-        ),
-    ];
-    check_all(&rt, rt.alloc(), "templates and sends", &cases)
 }

@@ -2,7 +2,6 @@ use Rattle.xf_run.proofs.Making.{one_made}
 use Rattle.xf_run.proofs.calls.make_line.Goals as goal
 
 pub returns-in_ok-reply-in-One-clause-ok : goal.returns-in_ok-reply-in-One-clause-ok
-returns-in_ok-reply-in-One-clause-ok c =
+returns-in_ok-reply-in-One-clause-ok g c =
     rw (c.is_refusal.ensures, c.in-One.is)
-    (one_made c.args.line.now.line _ c.args.machine.now c.make_call.new.machine c.in_ok-reply-in-One.reply c.args.buffer.now.items
-    c.make_call.new.buffer.items c.in_ok-reply-in-One.ensures.ok)
+    (one_made c.args.task.now.line _ c.args.machine.now c.make_call.new.machine c.in_ok-reply-in-One.reply _ _ c.in_ok-reply-in-One.ensures.ok)

@@ -1,0 +1,324 @@
+-- What a run comes to, where it ends.
+use Rattle.std.proofs.Common.{◌≡◌, inl, inr, ℕ, ◌+◌, ◌<◌, Bool, true, false, List, [], ◌∷◌, ◌++◌, length, take, drop, map, Option, None, Some, Err, refl, sym, ap, ◌∙◌, append-nil, append_assoc, take-append-drop, arith}
+use Rattle.std.specs.Prelude.{IfSome}
+use Rattle.std.specs.Io.KnownBytes.{Appends}
+use Rattle.std.proofs.KnownBytes.{Appends-trans, Appends-nil}
+use Rattle.std.proofs.Math.Nat.{mod-one}
+use Rattle.std.proofs.Math.Seq.{take-append_seam}
+use Rattle.std.proofs.lemmas.List.{take-map}
+use Rattle.xf_types.specs.declared.status.Reason.{Reason}
+use Rattle.xf_types.specs.declared.status.Status.{Status}
+use Rattle.xf_types.specs.declared.status.Status.TheVariants as status
+use Rattle.xf_types.specs.Batch.{WorkerLine, Line, Runs, calls_of_thread}
+use Rattle.xf_types.specs.History.{joined}
+use Rattle.xf_types.specs.Machine.{Machine}
+use Rattle.xf_types.specs.Steps.{empty}
+use Rattle.xf_read.specs.declared.reader.Unread.{Unread}
+use Rattle.xf_batch.specs.Batch.{Batch, batch_at, batch_of, later, refused_at}
+use Rattle.xf_batch.specs.Reading.{bytes_to_come, standing, followed, IsFirstBad}
+use Rattle.xf_print.specs.Receipts.{text_of}
+use Rattle.xf_print.specs.BadLine.{bad_line_text}
+use Rattle.xf_run.specs.Outcome.{AreFirst, PartOf, Answered, Ends, Reports, StopsBehindLine, StopsWithinText, StopsWithinReport, Outcome, IsOutcome}
+use Rattle.xf_run.specs.Phases.{ReadsPhase, EndsPhase, RunsNext, IsNext}
+use Rattle.xf_run.specs.Progress.{RunsLines}
+use Rattle.xf_run.specs.Turns.{Turn, Lead, receipts_from, turns_text}
+use Rattle.xf_run.proofs.Asking.{with_answer, answer_at, answer_before, asked_none, asked_more}
+use Rattle.xf_run.proofs.Phasing.{histories_of, all_turns, Leads-more, AreRuns-more, all_turns-more}
+use Rattle.xf_run.proofs.SoFar.{RanAll, Told, ToldSoFar, SoFar, all_before, later_by, ran_none, ran_more}
+use Rattle.xf_run.proofs.Told.{AreHistoriesOf-turns, text_of-histories, has_refusal-histories}
+use Rattle.xf_run.proofs.Turning.{text_join}
+
+-- phases were answered, and something stands behind their text
+answered : (ps : List (List WorkerLine)) (m : Machine) (refused : Bool) (behind : List ℕ) (old mid new : Option (List ℕ))
+    → RanAll ps m refused old mid → Appends mid new behind → Answered ps refused behind old new
+answered ps m refused behind old mid new r a = record {
+  histories = histories_of r.turns;
+  are_histories = AreHistoriesOf-turns m ps r.turns r.leads r.runs;
+  text = rw (text_of-histories r.turns) (Appends-trans old mid new (turns_text (all_turns r.turns)) behind r.text a);
+  refusals = has_refusal-histories r.turns ∙ r.refusals;
+}
+
+-- nothing stands behind it
+answered_whole : (ps : List (List WorkerLine)) (m : Machine) (refused : Bool) (old new : Option (List ℕ))
+    → RanAll ps m refused old new → Answered ps refused [] old new
+answered_whole ps m refused old new r = answered ps m refused [] old new new r (Appends-nil new)
+
+-- one thread has all call lines
+pub one_thread : (calls : List WorkerLine) → calls_of_thread 1 calls 0 ≡ map (λ (c : WorkerLine). c.line) calls
+one_thread [] = refl
+one_thread (c ∷ cs) = rw (mod-one c.worker) (ap (λ (ls : List Line). c.line ∷ ls) (one_thread cs))
+
+-- the first lines are those of the first call lines
+first_lines : (calls : List WorkerLine) (first rest : List Line) → first ++ rest ≡ calls_of_thread 1 calls 0
+    → first ≡ calls_of_thread 1 (take (length first) calls) 0
+first_lines calls first rest e =
+    let n : ℕ = length first in
+    sym
+    (one_thread (take n calls) ∙ sym (take-map (λ (c : WorkerLine). c.line) n calls)
+    ∙ ap (λ (ls : List Line). take n ls) (sym (e ∙ one_thread calls)) ∙ take-append_seam first rest)
+
+-- the first phases, and the front of the next one
+first_cut : (ps : List (List WorkerLine)) (cut rest calls : List WorkerLine) (qs : List (List WorkerLine)) → cut ++ rest ≡ calls
+    → AreFirst (ps ++ cut ∷ []) (ps ++ calls ∷ qs)
+first_cut [] cut rest calls qs e = (rest, e)
+first_cut (p ∷ []) cut rest calls qs e = (refl, (rest, e))
+first_cut (p ∷ q ∷ ps) cut rest calls qs e = (refl, first_cut (q ∷ ps) cut rest calls qs e)
+
+-- the first phases alone
+first_whole : (ps qs : List (List WorkerLine)) → AreFirst ps (ps ++ qs)
+first_whole [] qs = tt
+first_whole (p ∷ []) qs = ([], append-nil p)
+first_whole (p ∷ q ∷ ps) qs = (refl, first_whole (q ∷ ps) qs)
+
+-- all phases before what follows one
+followed_phases : (ps : List (List WorkerLine)) (more : Bool) (calls : List WorkerLine) (b : Batch)
+    → (qs : List (List WorkerLine)) × ((all_before ps (followed more calls b)).phases ≡ ps ++ calls ∷ qs)
+followed_phases ps true calls b = (b.phases, refl)
+followed_phases ps false calls b = ([], refl)
+
+-- all was answered
+ended_told : (answers : ℕ → ℕ) (asked : ℕ) (input left : List ℕ) (u : Unread) (m : Machine) (refused : Bool)
+    (old new : Option (List ℕ)) → Told answers asked input left u false m refused old new
+    → Ends (batch_of answers input) asked refused old new
+ended_told answers asked input left u m refused old new t =
+    let e : batch_of answers input ≡ record { phases = t.phases ++ []; bad = None } =
+    t.batch answers (λ (k : ℕ) (lt : k < asked). refl)
+    in
+    let all : (batch_of answers input).phases ≡ t.phases = ap (λ (b : Batch). b.phases) e ∙ append-nil t.phases in
+    record {
+      good = ap (λ (b : Batch). b.bad) e;
+      asked_each = t.count ∙ ap (λ (ps : List (List WorkerLine)). length ps) (sym all);
+      answered = rw all (answered_whole t.phases m refused old new t.ran);
+    }
+
+done_told : (answers : ℕ → ℕ) (asked : ℕ) (lo ln : Option (List ℕ)) (u : Unread) (m : Machine) (old new : Option (List ℕ))
+    → ToldSoFar answers asked lo ln u false m false old new
+    → IfSome lo (λ input. Outcome status.Done (batch_of answers input) asked old new)
+done_told answers asked None ln u m old new t = tt
+done_told answers asked (Some input) None u m old new t = absurd t
+done_told answers asked (Some input) (Some left) u m old new t = ended_told answers asked input left u m false old new t
+
+refused_told : (answers : ℕ → ℕ) (asked : ℕ) (lo ln : Option (List ℕ)) (u : Unread) (m : Machine) (old new : Option (List ℕ))
+    → ToldSoFar answers asked lo ln u false m true old new
+    → IfSome lo (λ input. Outcome status.Refusals (batch_of answers input) asked old new)
+refused_told answers asked None ln u m old new t = tt
+refused_told answers asked (Some input) None u m old new t = absurd t
+refused_told answers asked (Some input) (Some left) u m old new t = ended_told answers asked input left u m true old new t
+
+-- no reply was a refusal
+pub done_all : (coming later : Option (ℕ → ℕ)) (lo ln : Option (List ℕ)) (u : Unread) (m : Machine) (old new : Option (List ℕ))
+    → SoFar coming later lo ln u false m false old new → IsOutcome status.Done coming later lo old new
+done_all coming later lo ln u m old new s = record {
+  answers = s.answers;
+  asked = s.asked;
+  clock = s.clock;
+  outcome = done_told s.answers s.asked lo ln u m old new s.told;
+}
+
+-- some reply was one
+pub refused_all : (coming later : Option (ℕ → ℕ)) (lo ln : Option (List ℕ)) (u : Unread) (m : Machine) (old new : Option (List ℕ))
+    → SoFar coming later lo ln u false m true old new → IsOutcome status.Refusals coming later lo old new
+refused_all coming later lo ln u m old new s = record {
+  answers = s.answers;
+  asked = s.asked;
+  clock = s.clock;
+  outcome = refused_told s.answers s.asked lo ln u m old new s.told;
+}
+
+-- memory ran out before the first phase
+pub ran_out : (coming : Option (ℕ → ℕ)) (left text : Option (List ℕ)) → IsOutcome status.NoMemory coming coming left text text
+ran_out coming None text = record { answers = λ (k : ℕ). 0; asked = 0; clock = asked_none coming; outcome = tt }
+ran_out coming (Some input) text = record {
+  answers = λ (k : ℕ). 0;
+  asked = 0;
+  clock = asked_none coming;
+  outcome = record {
+    first = [];
+    are_first = tt;
+    refused = false;
+    answered = answered_whole [] (empty 4096 8192) false text text (ran_none text);
+  };
+}
+
+-- the phases so far and a front of the next one
+stops_cut : (b : Batch) (ps : List (List WorkerLine)) (calls : List WorkerLine) (qs : List (List WorkerLine)) (first rest : List Line)
+    → b.phases ≡ ps ++ calls ∷ qs → first ++ rest ≡ calls_of_thread 1 calls 0
+    → AreFirst (ps ++ take (length first) calls ∷ []) b.phases
+stops_cut b ps calls qs first rest e cut =
+    let n : ℕ = length first in
+    rw e (first_cut ps (take n calls) (drop n calls) calls qs (take-append-drop n calls))
+
+-- memory ran out behind a line
+cut_told : (b : Batch) (ps : List (List WorkerLine)) (calls : List WorkerLine) (qs : List (List WorkerLine)) (m n : Machine)
+    (refused refusal : Bool) (first rest : List Line) (old mid new : Option (List ℕ)) → b.phases ≡ ps ++ calls ∷ qs
+    → first ++ rest ≡ calls_of_thread 1 calls 0 → RanAll ps m refused old mid → RunsLines m n first refusal mid new
+    → StopsBehindLine b old new
+cut_told b ps calls qs m n refused refusal first rest old mid new e cut r k =
+    let front : List WorkerLine = take (length first) calls in
+    let ran : RanAll (ps ++ front ∷ []) n _ old new =
+    ran_more ps front first m n refused refusal old mid new (first_lines calls first rest cut) r k
+    in
+    record {
+      first = ps ++ front ∷ [];
+      are_first = stops_cut b ps calls qs first rest e cut;
+      refused = _;
+      answered = answered_whole (ps ++ front ∷ []) n _ old new ran;
+    }
+
+-- a write failed within a line
+broken_told : (b : Batch) (ps : List (List WorkerLine)) (calls : List WorkerLine) (qs : List (List WorkerLine)) (m n : Machine)
+    (refused : Bool) (first rest : List Line) (ts : List Turn) (old mid new : Option (List ℕ)) → b.phases ≡ ps ++ calls ∷ qs
+    → first ++ rest ≡ calls_of_thread 1 calls 0 → RanAll ps m refused old mid → Runs first (receipts_from 0 ts) → Lead m ts n
+    → PartOf (turns_text ts) mid new → StopsWithinText b old new
+broken_told b ps calls qs m n refused first rest ts old mid new e cut r runs lead part =
+    let front : List WorkerLine = take (length first) calls in
+    let tss : List (List Turn) = r.turns ++ ts ∷ [] in
+    let turns : List Turn = all_turns r.turns in
+    let whole : turns_text turns ++ turns_text ts ≡ text_of (joined (histories_of tss)) =
+    sym (text_of-histories tss ∙ ap turns_text (all_turns-more r.turns ts) ∙ text_join turns ts)
+    in
+    record {
+      first = ps ++ front ∷ [];
+      are_first = stops_cut b ps calls qs first rest e cut;
+      histories = histories_of tss;
+      are_histories =
+          AreHistoriesOf-turns n (ps ++ front ∷ []) tss (Leads-more (empty 4096 8192) m n r.turns ts r.leads lead)
+          (AreRuns-more ps front r.turns ts r.runs (rw (← first_lines calls first rest cut) runs));
+      part = record {
+        front = turns_text turns ++ part.front;
+        more = part.more;
+        is_front =
+            append_assoc (turns_text turns) part.front part.more
+            ∙ ap (λ (x : List ℕ). turns_text turns ++ x) part.is_front ∙ whole;
+        text = Appends-trans old mid new (turns_text turns) part.front r.text part.text;
+      };
+    }
+
+-- a write failed within the text of a bad line
+unreported_told : (b : Batch) (ps : List (List WorkerLine)) (m : Machine) (refused : Bool) (line : ℕ) (why : Reason)
+    (old mid new : Option (List ℕ)) → b ≡ all_before ps (refused_at line why) → RanAll ps m refused old mid
+    → PartOf (bad_line_text line why) mid new → StopsWithinReport b old new
+unreported_told b ps m refused line why old mid new e r part =
+    let all : b.phases ≡ ps = ap (λ (x : Batch). x.phases) e ∙ append-nil ps in
+    let turns : List Turn = all_turns r.turns in
+    record {
+      line = line;
+      reason = why;
+      is_bad = ap (λ (x : Batch). x.bad) e;
+      histories = histories_of r.turns;
+      are_histories = rw all (AreHistoriesOf-turns m ps r.turns r.leads r.runs);
+      part = record {
+        front = turns_text turns ++ part.front;
+        more = part.more;
+        is_front =
+            append_assoc (turns_text turns) part.front part.more
+            ∙ ap (λ (x : List ℕ). turns_text turns ++ x) part.is_front
+            ∙ ap (λ (x : List ℕ). x ++ bad_line_text line why) (sym (text_of-histories r.turns));
+        text = Appends-trans old mid new (turns_text turns) part.front r.text part.text;
+      };
+    }
+
+-- the text of a bad line was written
+reported_told : (b : Batch) (asked : ℕ) (ps : List (List WorkerLine)) (m : Machine) (refused : Bool) (line : ℕ) (why : Reason)
+    (old mid new : Option (List ℕ)) → b ≡ all_before ps (refused_at line why) → asked ≡ length ps → RanAll ps m refused old mid
+    → Appends mid new (bad_line_text line why) → Reports b (asked + 1) line why old new
+reported_told b asked ps m refused line why old mid new e count r a =
+    let all : b.phases ≡ ps = ap (λ (x : Batch). x.phases) e ∙ append-nil ps in
+    record {
+      is_bad = ap (λ (x : Batch). x.bad) e;
+      asked_each = ap (λ (n : ℕ). n + 1) (count ∙ ap (λ (x : List (List WorkerLine)). length x) (sym all));
+      refused = refused;
+      answered = rw all (answered ps m refused (bad_line_text line why) old mid new r a);
+    }
+
+-- where the text is as it was, that of the phases so far stands
+ran_still : (ps : List (List WorkerLine)) (m : Machine) (refused : Bool) (old mid new : Option (List ℕ)) → RanAll ps m refused old mid
+    → Appends mid new [] → Answered ps refused [] old new
+ran_still ps m refused old mid new r a = answered ps m refused [] old mid new r a
+
+-- the next answer is the first of those after the answers so far
+next_answer : (answers : ℕ → ℕ) (asked now : ℕ) → later_by asked (with_answer answers asked now) 0 ≡ now
+next_answer answers asked now =
+    let start : 0 + asked ≡ asked = omega arith in ap (with_answer answers asked now) start ∙ answer_at answers asked now
+
+-- the batch of the input, where the next phase has a bad line
+found : (answers : ℕ → ℕ) (asked now : ℕ) (input left : List ℕ) (u : Unread) (m : Machine) (refused : Bool) (old mid : Option (List ℕ))
+    (line : ℕ) (why : Reason) (t : Told answers asked input left u true m refused old mid) → IsFirstBad now u left line why
+    → batch_of (with_answer answers asked now) input ≡ all_before t.phases (refused_at line why)
+found answers asked now input left u m refused old mid line why t h =
+    t.batch (with_answer answers asked now) (answer_before answers asked now)
+    ∙ ap (λ (b : Batch). all_before t.phases b) (h (later_by asked (with_answer answers asked now)) (next_answer answers asked now))
+
+-- the batch of the input, where the next phase was read
+goes_on : (answers : ℕ → ℕ) (asked now : ℕ) (input left : List ℕ) (u : Unread) (m : Machine) (refused : Bool) (old mid : Option (List ℕ))
+    (t : Told answers asked input left u true m refused old mid) (v : Unread) (rest : List ℕ) (more : Bool) (ls : List Line)
+    (r : ReadsPhase now u v left rest more ls)
+    → batch_of (with_answer answers asked now) input
+    ≡ all_before t.phases
+    (followed more r.calls
+    (batch_at (later (later_by asked (with_answer answers asked now))) (standing v) (bytes_to_come v rest)))
+goes_on answers asked now input left u m refused old mid t v rest more ls r =
+    t.batch (with_answer answers asked now) (answer_before answers asked now)
+    ∙ ap (λ (b : Batch). all_before t.phases b)
+    (r.batch (later_by asked (with_answer answers asked now)) (next_answer answers asked now))
+
+-- by the status, what a run comes to that ends with a phase
+stop_told : (s : Status) (answers : ℕ → ℕ) (asked now : ℕ) (input left : List ℕ) (u : Unread) (m : Machine) (refused : Bool)
+    (old mid new : Option (List ℕ)) → Told answers asked input left u true m refused old mid → EndsPhase s now u left m mid new
+    → Outcome s (batch_of (with_answer answers asked now) input) (asked + 1) old new
+stop_told (status.BadLine line why) answers asked now input left u m refused old mid new t h =
+    reported_told _ asked t.phases m refused line why old mid new (found answers asked now input left u m refused old mid line why t h.0) t.count t.ran h.1
+stop_told status.ReadFault answers asked now input left u m refused old mid new t h = record {
+  first = t.phases;
+  rest = (batch_at (later_by asked (with_answer answers asked now)) (standing u) (bytes_to_come u left)).phases;
+  is_front = ap (λ (b : Batch). b.phases) (sym (t.batch (with_answer answers asked now) (answer_before answers asked now)));
+  asked_each = ap (λ (n : ℕ). n + 1) t.count;
+  refused = refused;
+  answered = ran_still t.phases m refused old mid new t.ran h;
+}
+stop_told status.WriteFault answers asked now input left u m refused old mid new t (inl k) =
+    let qs = followed_phases t.phases k.more k.read.calls _ in
+    inl (broken_told _ t.phases k.read.calls qs.0 m k.stops.after refused k.stops.first k.stops.rest k.stops.turns old mid new
+    (ap (λ (b : Batch). b.phases) (goes_on answers asked now input left u m refused old mid t k.new k.left_new k.more k.lines k.read) ∙ qs.1)
+    (k.stops.is_front ∙ k.read.lines) t.ran k.stops.runs k.stops.lead k.stops.part)
+stop_told status.WriteFault answers asked now input left u m refused old mid new t (inr k) =
+    inr (unreported_told _ t.phases m refused k.line k.reason old mid new
+    (found answers asked now input left u m refused old mid k.line k.reason t k.found) t.ran k.part)
+stop_told status.NoMemory answers asked now input left u m refused old mid new t (inl a) =
+    let given : ℕ → ℕ = with_answer answers asked now in
+    let e : batch_of given input ≡ all_before t.phases (batch_at (later_by asked given) (standing u) (bytes_to_come u left)) =
+    t.batch given (answer_before answers asked now)
+    in
+    record {
+      first = t.phases;
+      are_first = rw e (first_whole t.phases _);
+      refused = refused;
+      answered = ran_still t.phases m refused old mid new t.ran a;
+    }
+stop_told status.NoMemory answers asked now input left u m refused old mid new t (inr k) =
+    let qs = followed_phases t.phases k.more k.read.calls _ in
+    cut_told _ t.phases k.read.calls qs.0 m k.stops.after refused k.stops.refused k.stops.first k.stops.rest old mid new
+    (ap (λ (b : Batch). b.phases) (goes_on answers asked now input left u m refused old mid t k.new k.left_new k.more k.lines k.read) ∙ qs.1)
+    (k.stops.is_front ∙ k.read.lines) t.ran k.stops.ran
+stop_told status.Done answers asked now input left u m refused old mid new t h = absurd h
+stop_told status.Refusals answers asked now input left u m refused old mid new t h = absurd h
+stop_told status.Usage answers asked now input left u m refused old mid new t h = absurd h
+
+stop_some : (s : Status) (answers : ℕ → ℕ) (asked now : ℕ) (lo lm ln : Option (List ℕ)) (u : Unread) (m n : Machine) (refused : Bool)
+    (old mid new : Option (List ℕ)) → ToldSoFar answers asked lo lm u true m refused old mid → RunsNext now u lm ln m n mid new (Err s)
+    → IfSome lo (λ input. Outcome s (batch_of (with_answer answers asked now) input) (asked + 1) old new)
+stop_some s answers asked now None lm ln u m n refused old mid new t r = tt
+stop_some s answers asked now (Some input) None ln u m n refused old mid new t r = absurd t
+stop_some s answers asked now (Some input) (Some left) ln u m n refused old mid new t r =
+    stop_told s answers asked now input left u m refused old mid new t r
+
+-- the run ends with a phase
+pub stop_all : (s : Status) (cl cm cn : Option (ℕ → ℕ)) (lo lm ln : Option (List ℕ)) (u : Unread) (m n : Machine) (refused : Bool)
+    (old mid new : Option (List ℕ)) → SoFar cl cm lo lm u true m refused old mid → IsNext cm cn u lm ln m n mid new (Err s)
+    → IsOutcome s cl cn lo old new
+stop_all s cl cm cn lo lm ln u m n refused old mid new t k = record {
+  answers = with_answer t.answers t.asked k.now;
+  asked = t.asked + 1;
+  clock = asked_more cl cm cn t.answers t.asked k.now t.clock k.in_range k.asked;
+  outcome = stop_some s t.answers t.asked k.now lo lm ln u m n refused old mid new t.told k.runs;
+}
