@@ -1,6 +1,6 @@
 -- How many phases and call lines a batch has, counted phase by phase.
 use Rattle.std.proofs.Common.{◌≡◌, ℕ, ◌+◌, Bool, true, false, List, [], ◌∷◌, ◌++◌, length, get_or, Option, None, Some, Ok, Err, ◌||◌, if◌then◌else◌, refl, sym, ap, ◌∙◌, append-nil, arith}
-use Rattle.std.specs.Prelude.{nat_lt}
+use Rattle.std.specs.Prelude.{nat_lt, IfSome}
 use Rattle.std.proofs.lemmas.Bool.{lt-ltb}
 use Rattle.std.proofs.lemmas.List.{length-append, length-map}
 use Rattle.std.proofs.lemmas.List.Sums.{sum-map, sum_by-cons}
@@ -18,7 +18,7 @@ use Rattle.xf_batch.specs.Reading.{bytes_to_come, standing, followed, IsFirstBad
 use Rattle.xf_batch.specs.Shown.{threads_shown}
 use Rattle.xf_print.specs.BadLine.{bad_line_text}
 use Rattle.xf_run.specs.declared.check.Counts.{Counts}
-use Rattle.xf_run.specs.Check.{AreCounts, CheckOutcome, IsCheckOutcome, CountsBatch, TellsCounts, check_text, counts_text}
+use Rattle.xf_run.specs.Check.{AreCounts, CheckOutcome, IsCheckStatus, IsCheckOutcome, CountsBatch, TellsCounts, check_text, counts_text}
 use Rattle.xf_read.specs.Unread.{IsFresh}
 use Rattle.xf_run.specs.Phases.{Reported}
 use Rattle.xf_run.proofs.Ending.{one_thread}
@@ -182,14 +182,43 @@ bad_by status.Refusals b line why old new e t = absurd t
 bad_by status.Usage b line why old new e t = absurd t
 bad_by status.ReadFault b line why old new e t = absurd t
 
+-- a check may end where counts were written
+counts_end : (s : Status) (c : Counts) (old new : Option (List ℕ)) → TellsCounts s c.phases c.lines old new → IsCheckStatus s
+counts_end status.Done c old new t = tt
+counts_end status.WriteFault c old new t = tt
+counts_end status.NoMemory c old new t = tt
+counts_end status.Refusals c old new t = absurd t
+counts_end status.Usage c old new t = absurd t
+counts_end (status.BadLine line reason) c old new t = absurd t
+counts_end status.ReadFault c old new t = absurd t
+
+-- and where a bad line was
+bad_end : (s : Status) (line : ℕ) (why : Reason) (old new : Option (List ℕ)) → Reported s line why old new → IsCheckStatus s
+bad_end (status.BadLine n reason) line why old new t = tt
+bad_end status.WriteFault line why old new t = tt
+bad_end status.NoMemory line why old new t = tt
+bad_end status.Done line why old new t = absurd t
+bad_end status.Refusals line why old new t = absurd t
+bad_end status.Usage line why old new t = absurd t
+bad_end status.ReadFault line why old new t = absurd t
+
 -- what the writing of counts says of the batch
+counts_some : (s : Status) (left : Option (List ℕ)) (c : Counts) (old new : Option (List ℕ)) → CountsBatch left (Ok c)
+    → TellsCounts s c.phases c.lines old new → IfSome left (λ input. CheckOutcome s (batch_of unasked input) old new)
+counts_some s None c old new b t = tt
+counts_some s (Some input) c old new b t = told_by s (batch_of unasked input) c old new b t
+
 pub told_counts : (s : Status) (left : Option (List ℕ)) (c : Counts) (old new : Option (List ℕ)) → CountsBatch left (Ok c)
     → TellsCounts s c.phases c.lines old new → IsCheckOutcome s left old new
-told_counts s None c old new b t = tt
-told_counts s (Some input) c old new b t = told_by s (batch_of unasked input) c old new b t
+told_counts s left c old new b t = record { may_end = counts_end s c old new t; outcome = counts_some s left c old new b t }
 
 -- and that of a bad line
+bad_some : (s : Status) (left : Option (List ℕ)) (line : ℕ) (why : Reason) (old new : Option (List ℕ))
+    → CountsBatch left (Err (fault.Bad line why)) → Reported s line why old new
+    → IfSome left (λ input. CheckOutcome s (batch_of unasked input) old new)
+bad_some s None line why old new b t = tt
+bad_some s (Some input) line why old new b t = bad_by s (batch_of unasked input) line why old new b t
+
 pub told_bad : (s : Status) (left : Option (List ℕ)) (line : ℕ) (why : Reason) (old new : Option (List ℕ))
     → CountsBatch left (Err (fault.Bad line why)) → Reported s line why old new → IsCheckOutcome s left old new
-told_bad s None line why old new b t = tt
-told_bad s (Some input) line why old new b t = bad_by s (batch_of unasked input) line why old new b t
+told_bad s left line why old new b t = record { may_end = bad_end s line why old new t; outcome = bad_some s left line why old new b t }

@@ -9,8 +9,8 @@ use Rattle.xf_run.specs.Command.{Does}
 use Rattle.xf_run.proofs.Ending.{ran_out}
 
 checks_nothing : (left text : Option (List ℕ)) → IsCheckOutcome status.NoMemory left text text
-checks_nothing None text = tt
-checks_nothing (Some input) text = Appends-nil text
+checks_nothing None text = record { may_end = tt; outcome = tt }
+checks_nothing (Some input) text = record { may_end = tt; outcome = Appends-nil text }
 
 -- by any command
 pub does_nothing : (c : Option Command) (coming : Option (ℕ → ℕ)) (left text : Option (List ℕ))

@@ -5,7 +5,7 @@ use Rattle.std.specs.Io.KnownBytes.{Appends}
 use Rattle.std.proofs.KnownBytes.{Appends-trans, Appends-nil}
 use Rattle.std.proofs.Math.Nat.{mod-one}
 use Rattle.std.proofs.Math.Seq.{take-append_seam}
-use Rattle.std.proofs.lemmas.List.{take-map}
+use Rattle.std.proofs.lemmas.List.{length-append, take-map}
 use Rattle.xf_types.specs.declared.status.Reason.{Reason}
 use Rattle.xf_types.specs.declared.status.Status.{Status}
 use Rattle.xf_types.specs.declared.status.Status.TheVariants as status
@@ -18,11 +18,12 @@ use Rattle.xf_batch.specs.Batch.{Batch, batch_at, batch_of, later, refused_at}
 use Rattle.xf_batch.specs.Reading.{bytes_to_come, standing, followed, IsFirstBad}
 use Rattle.xf_print.specs.Receipts.{text_of}
 use Rattle.xf_print.specs.BadLine.{bad_line_text}
-use Rattle.xf_run.specs.Outcome.{AreFirst, PartOf, Answered, Ends, Reports, StopsBehindLine, StopsWithinText, StopsWithinReport, Outcome, IsOutcome}
+use Rattle.xf_run.specs.Outcome.{AreFirst, PartOf, Answered, Ends, Reports, StopsBehindLine, StopsWithinText, StopsWithinReport, Outcome, IsRunStatus, IsOutcome}
 use Rattle.xf_run.specs.Phases.{ReadsPhase, EndsPhase, RunsNext, IsNext}
 use Rattle.xf_run.specs.Progress.{RunsLines}
 use Rattle.xf_run.specs.Turns.{Turn, Lead, receipts_from, turns_text}
 use Rattle.xf_run.proofs.Asking.{with_answer, answer_at, answer_before, asked_none, asked_more}
+use Rattle.xf_run.proofs.Following.{some_follows}
 use Rattle.xf_run.proofs.Phasing.{histories_of, all_turns, Leads-more, AreRuns-more, all_turns-more}
 use Rattle.xf_run.proofs.SoFar.{RanAll, Told, ToldSoFar, SoFar, all_before, later_by, ran_none, ran_more}
 use Rattle.xf_run.proofs.Told.{AreHistoriesOf-turns, text_of-histories, has_refusal-histories}
@@ -109,6 +110,7 @@ refused_told answers asked (Some input) (Some left) u m old new t = ended_told a
 pub done_all : (coming later : Option (ℕ → ℕ)) (lo ln : Option (List ℕ)) (u : Unread) (m : Machine) (old new : Option (List ℕ))
     → SoFar coming later lo ln u false m false old new → IsOutcome status.Done coming later lo old new
 done_all coming later lo ln u m old new s = record {
+  may_end = tt;
   answers = s.answers;
   asked = s.asked;
   clock = s.clock;
@@ -119,6 +121,7 @@ done_all coming later lo ln u m old new s = record {
 pub refused_all : (coming later : Option (ℕ → ℕ)) (lo ln : Option (List ℕ)) (u : Unread) (m : Machine) (old new : Option (List ℕ))
     → SoFar coming later lo ln u false m true old new → IsOutcome status.Refusals coming later lo old new
 refused_all coming later lo ln u m old new s = record {
+  may_end = tt;
   answers = s.answers;
   asked = s.asked;
   clock = s.clock;
@@ -127,14 +130,17 @@ refused_all coming later lo ln u m old new s = record {
 
 -- memory ran out before the first phase
 pub ran_out : (coming : Option (ℕ → ℕ)) (left text : Option (List ℕ)) → IsOutcome status.NoMemory coming coming left text text
-ran_out coming None text = record { answers = λ (k : ℕ). 0; asked = 0; clock = asked_none coming; outcome = tt }
+ran_out coming None text =
+    record { may_end = tt; answers = λ (k : ℕ). 0; asked = 0; clock = asked_none coming; outcome = tt }
 ran_out coming (Some input) text = record {
+  may_end = tt;
   answers = λ (k : ℕ). 0;
   asked = 0;
   clock = asked_none coming;
   outcome = record {
     first = [];
     are_first = tt;
+    asked_each = inl refl;
     refused = false;
     answered = answered_whole [] (empty 4096 8192) false text text (ran_none text);
   };
@@ -148,12 +154,18 @@ stops_cut b ps calls qs first rest e cut =
     let n : ℕ = length first in
     rw e (first_cut ps (take n calls) (drop n calls) calls qs (take-append-drop n calls))
 
+-- the clock was asked for the phases so far and for the next one
+one_more : (asked : ℕ) (ps : List (List WorkerLine)) (front : List WorkerLine) → asked ≡ length ps
+    → asked + 1 ≡ length (ps ++ front ∷ [])
+one_more asked ps front e =
+    let count : length (ps ++ front ∷ []) ≡ length ps + 1 = length-append ps (front ∷ []) in omega (arith, count, e)
+
 -- memory ran out behind a line
-cut_told : (b : Batch) (ps : List (List WorkerLine)) (calls : List WorkerLine) (qs : List (List WorkerLine)) (m n : Machine)
+cut_told : (b : Batch) (asked : ℕ) (ps : List (List WorkerLine)) (calls : List WorkerLine) (qs : List (List WorkerLine)) (m n : Machine)
     (refused refusal : Bool) (first rest : List Line) (old mid new : Option (List ℕ)) → b.phases ≡ ps ++ calls ∷ qs
-    → first ++ rest ≡ calls_of_thread 1 calls 0 → RanAll ps m refused old mid → RunsLines m n first refusal mid new
-    → StopsBehindLine b old new
-cut_told b ps calls qs m n refused refusal first rest old mid new e cut r k =
+    → asked ≡ length ps → first ++ rest ≡ calls_of_thread 1 calls 0 → RanAll ps m refused old mid
+    → RunsLines m n first refusal mid new → StopsBehindLine b (asked + 1) old new
+cut_told b asked ps calls qs m n refused refusal first rest old mid new e count cut r k =
     let front : List WorkerLine = take (length first) calls in
     let ran : RanAll (ps ++ front ∷ []) n _ old new =
     ran_more ps front first m n refused refusal old mid new (first_lines calls first rest cut) r k
@@ -161,16 +173,17 @@ cut_told b ps calls qs m n refused refusal first rest old mid new e cut r k =
     record {
       first = ps ++ front ∷ [];
       are_first = stops_cut b ps calls qs first rest e cut;
+      asked_each = inl (one_more asked ps front count);
       refused = _;
       answered = answered_whole (ps ++ front ∷ []) n _ old new ran;
     }
 
 -- a write failed within a line
-broken_told : (b : Batch) (ps : List (List WorkerLine)) (calls : List WorkerLine) (qs : List (List WorkerLine)) (m n : Machine)
-    (refused : Bool) (first rest : List Line) (ts : List Turn) (old mid new : Option (List ℕ)) → b.phases ≡ ps ++ calls ∷ qs
-    → first ++ rest ≡ calls_of_thread 1 calls 0 → RanAll ps m refused old mid → Runs first (receipts_from 0 ts) → Lead m ts n
-    → PartOf (turns_text ts) mid new → StopsWithinText b old new
-broken_told b ps calls qs m n refused first rest ts old mid new e cut r runs lead part =
+broken_told : (b : Batch) (asked : ℕ) (ps : List (List WorkerLine)) (calls : List WorkerLine) (qs : List (List WorkerLine))
+    (m n : Machine) (refused : Bool) (first rest : List Line) (ts : List Turn) (old mid new : Option (List ℕ))
+    → b.phases ≡ ps ++ calls ∷ qs → asked ≡ length ps → first ++ rest ≡ calls_of_thread 1 calls 0 → RanAll ps m refused old mid
+    → Runs first (receipts_from 0 ts) → Lead m ts n → PartOf (turns_text ts) mid new → StopsWithinText b (asked + 1) old new
+broken_told b asked ps calls qs m n refused first rest ts old mid new e count cut r runs lead part =
     let front : List WorkerLine = take (length first) calls in
     let tss : List (List Turn) = r.turns ++ ts ∷ [] in
     let turns : List Turn = all_turns r.turns in
@@ -180,6 +193,7 @@ broken_told b ps calls qs m n refused first rest ts old mid new e cut r runs lea
     record {
       first = ps ++ front ∷ [];
       are_first = stops_cut b ps calls qs first rest e cut;
+      asked_each = one_more asked ps front count;
       histories = histories_of tss;
       are_histories =
           AreHistoriesOf-turns n (ps ++ front ∷ []) tss (Leads-more (empty 4096 8192) m n r.turns ts r.leads lead)
@@ -195,16 +209,17 @@ broken_told b ps calls qs m n refused first rest ts old mid new e cut r runs lea
     }
 
 -- a write failed within the text of a bad line
-unreported_told : (b : Batch) (ps : List (List WorkerLine)) (m : Machine) (refused : Bool) (line : ℕ) (why : Reason)
-    (old mid new : Option (List ℕ)) → b ≡ all_before ps (refused_at line why) → RanAll ps m refused old mid
-    → PartOf (bad_line_text line why) mid new → StopsWithinReport b old new
-unreported_told b ps m refused line why old mid new e r part =
+unreported_told : (b : Batch) (asked : ℕ) (ps : List (List WorkerLine)) (m : Machine) (refused : Bool) (line : ℕ) (why : Reason)
+    (old mid new : Option (List ℕ)) → b ≡ all_before ps (refused_at line why) → asked ≡ length ps → RanAll ps m refused old mid
+    → PartOf (bad_line_text line why) mid new → StopsWithinReport b (asked + 1) old new
+unreported_told b asked ps m refused line why old mid new e count r part =
     let all : b.phases ≡ ps = ap (λ (x : Batch). x.phases) e ∙ append-nil ps in
     let turns : List Turn = all_turns r.turns in
     record {
       line = line;
       reason = why;
       is_bad = ap (λ (x : Batch). x.bad) e;
+      asked_each = ap (λ (n : ℕ). n + 1) (count ∙ ap (λ (x : List (List WorkerLine)). length x) (sym all));
       histories = histories_of r.turns;
       are_histories = rw all (AreHistoriesOf-turns m ps r.turns r.leads r.runs);
       part = record {
@@ -268,22 +283,27 @@ stop_told : (s : Status) (answers : ℕ → ℕ) (asked now : ℕ) (input left :
     → Outcome s (batch_of (with_answer answers asked now) input) (asked + 1) old new
 stop_told (status.BadLine line why) answers asked now input left u m refused old mid new t h =
     reported_told _ asked t.phases m refused line why old mid new (found answers asked now input left u m refused old mid line why t h.0) t.count t.ran h.1
-stop_told status.ReadFault answers asked now input left u m refused old mid new t h = record {
-  first = t.phases;
-  rest = (batch_at (later_by asked (with_answer answers asked now)) (standing u) (bytes_to_come u left)).phases;
-  is_front = ap (λ (b : Batch). b.phases) (sym (t.batch (with_answer answers asked now) (answer_before answers asked now)));
-  asked_each = ap (λ (n : ℕ). n + 1) t.count;
-  refused = refused;
-  answered = ran_still t.phases m refused old mid new t.ran h;
-}
+stop_told status.ReadFault answers asked now input left u m refused old mid new t h =
+    let given : ℕ → ℕ = with_answer answers asked now in
+    let ahead : Batch = batch_at (later_by asked given) (standing u) (bytes_to_come u left) in
+    let e : batch_of given input ≡ all_before t.phases ahead = t.batch given (answer_before answers asked now) in
+    record {
+      first = t.phases;
+      rest = ahead.phases;
+      is_front = ap (λ (b : Batch). b.phases) (sym e);
+      follows = rw (ap (λ (b : Batch). b.bad) e) (some_follows (later_by asked given) (standing u) (bytes_to_come u left));
+      asked_each = ap (λ (n : ℕ). n + 1) t.count;
+      refused = refused;
+      answered = ran_still t.phases m refused old mid new t.ran h;
+    }
 stop_told status.WriteFault answers asked now input left u m refused old mid new t (inl k) =
     let qs = followed_phases t.phases k.more k.read.calls _ in
-    inl (broken_told _ t.phases k.read.calls qs.0 m k.stops.after refused k.stops.first k.stops.rest k.stops.turns old mid new
+    inl (broken_told _ asked t.phases k.read.calls qs.0 m k.stops.after refused k.stops.first k.stops.rest k.stops.turns old mid new
     (ap (λ (b : Batch). b.phases) (goes_on answers asked now input left u m refused old mid t k.new k.left_new k.more k.lines k.read) ∙ qs.1)
-    (k.stops.is_front ∙ k.read.lines) t.ran k.stops.runs k.stops.lead k.stops.part)
+    t.count (k.stops.is_front ∙ k.read.lines) t.ran k.stops.runs k.stops.lead k.stops.part)
 stop_told status.WriteFault answers asked now input left u m refused old mid new t (inr k) =
-    inr (unreported_told _ t.phases m refused k.line k.reason old mid new
-    (found answers asked now input left u m refused old mid k.line k.reason t k.found) t.ran k.part)
+    inr (unreported_told _ asked t.phases m refused k.line k.reason old mid new
+    (found answers asked now input left u m refused old mid k.line k.reason t k.found) t.count t.ran k.part)
 stop_told status.NoMemory answers asked now input left u m refused old mid new t (inl a) =
     let given : ℕ → ℕ = with_answer answers asked now in
     let e : batch_of given input ≡ all_before t.phases (batch_at (later_by asked given) (standing u) (bytes_to_come u left)) =
@@ -292,14 +312,15 @@ stop_told status.NoMemory answers asked now input left u m refused old mid new t
     record {
       first = t.phases;
       are_first = rw e (first_whole t.phases _);
+      asked_each = inr (ap (λ (n : ℕ). n + 1) t.count);
       refused = refused;
       answered = ran_still t.phases m refused old mid new t.ran a;
     }
 stop_told status.NoMemory answers asked now input left u m refused old mid new t (inr k) =
     let qs = followed_phases t.phases k.more k.read.calls _ in
-    cut_told _ t.phases k.read.calls qs.0 m k.stops.after refused k.stops.refused k.stops.first k.stops.rest old mid new
+    cut_told _ asked t.phases k.read.calls qs.0 m k.stops.after refused k.stops.refused k.stops.first k.stops.rest old mid new
     (ap (λ (b : Batch). b.phases) (goes_on answers asked now input left u m refused old mid t k.new k.left_new k.more k.lines k.read) ∙ qs.1)
-    (k.stops.is_front ∙ k.read.lines) t.ran k.stops.ran
+    t.count (k.stops.is_front ∙ k.read.lines) t.ran k.stops.ran
 stop_told status.Done answers asked now input left u m refused old mid new t h = absurd h
 stop_told status.Refusals answers asked now input left u m refused old mid new t h = absurd h
 stop_told status.Usage answers asked now input left u m refused old mid new t h = absurd h
@@ -312,11 +333,12 @@ stop_some s answers asked now (Some input) None ln u m n refused old mid new t r
 stop_some s answers asked now (Some input) (Some left) ln u m n refused old mid new t r =
     stop_told s answers asked now input left u m refused old mid new t r
 
--- the run ends with a phase
+-- the run ends with a phase, in a status in which a run may end
 pub stop_all : (s : Status) (cl cm cn : Option (ℕ → ℕ)) (lo lm ln : Option (List ℕ)) (u : Unread) (m n : Machine) (refused : Bool)
     (old mid new : Option (List ℕ)) → SoFar cl cm lo lm u true m refused old mid → IsNext cm cn u lm ln m n mid new (Err s)
-    → IsOutcome s cl cn lo old new
-stop_all s cl cm cn lo lm ln u m n refused old mid new t k = record {
+    → IsRunStatus s → IsOutcome s cl cn lo old new
+stop_all s cl cm cn lo lm ln u m n refused old mid new t k may_end = record {
+  may_end = may_end;
   answers = with_answer t.answers t.asked k.now;
   asked = t.asked + 1;
   clock = asked_more cl cm cn t.answers t.asked k.now t.clock k.in_range k.asked;

@@ -8,6 +8,7 @@ pub mod Lengths
 pub mod Taking
 pub mod Asking
 pub mod SoFar
+pub mod Following
 pub mod Ending
 pub mod Counting
 pub mod Doing

@@ -38,9 +38,16 @@ CheckOutcome status.ReadFault b old new = Appends old new []
 CheckOutcome status.WriteFault b old new = PartOf (check_text b) old new
 CheckOutcome status.NoMemory b old new = Appends old new []
 
+-- a check may end in this status, whatever the source tells: nothing refuses a call, and the words are a command
+abbrev pub IsCheckStatus : Status → Type 0
+IsCheckStatus status.Refusals = ⊥
+IsCheckStatus status.Usage = ⊥
+IsCheckStatus _ = Unit {0}
+
 -- the same, where the source tells its bytes. The clock is not asked: what it says changes no count and no bad line
-abbrev pub IsCheckOutcome : Status → Option (List ℕ) → Option (List ℕ) → Option (List ℕ) → Type 0
-IsCheckOutcome s left old new = IfSome left (λ input. CheckOutcome s (batch_of (λ k. 0) input) old new)
+pub record IsCheckOutcome (s : Status) (left old new : Option (List ℕ)) : Type 0 where
+  pub may_end : IsCheckStatus s
+  pub outcome : IfSome left (λ input. CheckOutcome s (batch_of (λ k. 0) input) old new)
 
 -- the counts are those of a batch without a bad line
 pub record AreCounts (b : Batch) (c : Counts) : Type 0 where

@@ -1,5 +1,5 @@
 -- What each status of a run says.
-use Rattle.std.specs.Prelude.{◌≡◌, ◌⊎◌, ℕ, ◌+◌, ◌<◌, ◌^◌, Bool, true, false, List, [], ◌∷◌, ◌++◌, length, map, Option, None, Some, IfSome}
+use Rattle.std.specs.Prelude.{◌≡◌, ◌≢◌, ◌⊎◌, ℕ, ◌+◌, ◌<◌, ◌^◌, Bool, true, false, List, [], ◌∷◌, ◌++◌, length, map, Option, None, Some, IfSome}
 use Rattle.std.specs.Io.KnownBytes.{Appends}
 use Rattle.xf_types.specs.declared.call.Receipt.{Receipt}
 use Rattle.xf_types.specs.declared.status.Reason.{Reason}
@@ -56,35 +56,40 @@ pub record Reports (b : Batch) (asked line : ℕ) (reason : Reason) (old new : O
   pub refused : Bool
   pub answered : Answered b.phases refused (bad_line_text line reason) old new
 
--- the first phases were answered, and nothing of the next one
+-- the first phases were answered, and nothing of what follows them, a further phase or a bad line
 pub record StopsBetween (b : Batch) (asked : ℕ) (old new : Option (List ℕ)) : Type 0 where
   pub first : List (List WorkerLine)
   pub rest : List (List WorkerLine)
   pub is_front : first ++ rest ≡ b.phases
+  pub follows : (rest ≢ []) ⊎ (b.bad ≢ None)
   pub asked_each : asked ≡ length first + 1
   pub refused : Bool
   pub answered : Answered first refused [] old new
 
--- the first lines were answered, up to some line, and their text stands whole
-pub record StopsBehindLine (b : Batch) (old new : Option (List ℕ)) : Type 0 where
+-- the first lines were answered, up to some line, and their text stands whole. The clock was asked once for each of their phases, and
+-- perhaps once more, for the phase behind them
+pub record StopsBehindLine (b : Batch) (asked : ℕ) (old new : Option (List ℕ)) : Type 0 where
   pub first : List (List WorkerLine)
   pub are_first : AreFirst first b.phases
+  pub asked_each : (asked ≡ length first) ⊎ (asked ≡ length first + 1)
   pub refused : Bool
   pub answered : Answered first refused [] old new
 
 -- a front stands of the text of the first lines
-pub record StopsWithinText (b : Batch) (old new : Option (List ℕ)) : Type 0 where
+pub record StopsWithinText (b : Batch) (asked : ℕ) (old new : Option (List ℕ)) : Type 0 where
   pub first : List (List WorkerLine)
   pub are_first : AreFirst first b.phases
+  pub asked_each : asked ≡ length first
   pub histories : List (List Receipt)
   pub are_histories : AreHistoriesOf first histories
   pub part : PartOf (text_of (joined histories)) old new
 
 -- all phases were answered, and a front stands of the text of the bad line behind them
-pub record StopsWithinReport (b : Batch) (old new : Option (List ℕ)) : Type 0 where
+pub record StopsWithinReport (b : Batch) (asked : ℕ) (old new : Option (List ℕ)) : Type 0 where
   pub line : ℕ
   pub reason : Reason
   pub is_bad : b.bad ≡ Some (record { line = line; reason = reason })
+  pub asked_each : asked ≡ length b.phases + 1
   pub histories : List (List Receipt)
   pub are_histories : AreHistoriesOf b.phases histories
   pub part : PartOf (text_of (joined histories) ++ bad_line_text line reason) old new
@@ -96,8 +101,8 @@ Outcome status.Refusals b asked old new = Ends b asked true old new
 Outcome status.Usage b asked old new = ⊥
 Outcome (status.BadLine line reason) b asked old new = Reports b asked line reason old new
 Outcome status.ReadFault b asked old new = StopsBetween b asked old new
-Outcome status.WriteFault b asked old new = StopsWithinText b old new ⊎ StopsWithinReport b old new
-Outcome status.NoMemory b asked old new = StopsBehindLine b old new
+Outcome status.WriteFault b asked old new = StopsWithinText b asked old new ⊎ StopsWithinReport b asked old new
+Outcome status.NoMemory b asked old new = StopsBehindLine b asked old new
 
 -- a clock that tells its answers has these left after so many
 abbrev pub HasLeft : Option (ℕ → ℕ) → Option (ℕ → ℕ) → ℕ → Type 0
@@ -111,8 +116,14 @@ pub record ClockAnswers (coming later : Option (ℕ → ℕ)) (asked : ℕ) (ans
   pub given : IfSome coming (λ f. (k : ℕ) → k < asked → answers k ≡ f k)
   pub left : HasLeft coming later asked
 
+-- a run may end in this status, whatever the source tells: not in the one of words that are no command
+abbrev pub IsRunStatus : Status → Type 0
+IsRunStatus status.Usage = ⊥
+IsRunStatus _ = Unit {0}
+
 -- by the clock's answers, one for each phase that was begun, the outcome is this, where the source tells its bytes
 pub record IsOutcome (s : Status) (coming later : Option (ℕ → ℕ)) (left old new : Option (List ℕ)) : Type 0 where
+  pub may_end : IsRunStatus s
   pub answers : ℕ → ℕ
   pub asked : ℕ
   pub clock : ClockAnswers coming later asked answers

@@ -4,7 +4,7 @@ ghost use Rattle.std.specs.Io.KnownBytes.{IsAtEnd};
 ghost use Rattle.xf_io.specs.Causes.{Rose};
 ghost use Rattle.xf_batch.specs.Reading.{IsUnread};
 ghost use Rattle.xf_batch.specs.Batch.{limit};
-ghost use Rattle.xf_run.specs.Outcome.{IsOutcome, IsEnd};
+ghost use Rattle.xf_run.specs.Outcome.{IsOutcome, IsRunStatus, IsEnd};
 ghost use Rattle.xf_run.specs.Phases.{TakesPhase, IsNext, IsBounded, KeepsUp};
 ghost use Rattle.xf_read.specs.Unread.{IsFresh};
 ghost use Rattle.xf_types.specs.Steps.{empty};
@@ -48,6 +48,7 @@ fn take_phase<S: Source, K: Sink>(
     ensures read_fault { IsErrOf result Status.ReadFault → Rose (S.faults src.old) (S.faults src.new) }
     ensures write_fault { IsErrOf result Status.WriteFault → Rose (K.faults out.old) (K.faults out.new) }
     ensures unfinished { IfErr result (λ s. IsEnd s → ⊥) }
+    ensures may_end { IfErr result IsRunStatus }
 {
     match read_phase(alloc, reader, src, 1, now) {
         Ok(read) => Ok(read),
@@ -78,6 +79,7 @@ fn run_next<S: Source, K: Sink, C: Clock>(
     ensures read_fault { IsErrOf result Status.ReadFault → Rose (S.faults src.old) (S.faults src.new) }
     ensures write_fault { IsErrOf result Status.WriteFault → Rose (K.faults out.old) (K.faults out.new) }
     ensures unfinished { IfErr result (λ s. IsEnd s → ⊥) }
+    ensures may_end { IfErr result IsRunStatus }
 {
     let now = clock.now();
     let (phase, reader) = take_phase(alloc, reader, now, buffer, src, out)?;

@@ -36,7 +36,7 @@ phases-preserved g c = record {
 pub returns-in-Err-clause-outcome : goal.returns-in-Err-clause-outcome
 returns-in-Err-clause-outcome g c =
     stop_all c.in-Err.status _ _ _ _ _ _ c.phases.reader.unread c.phases.machine c.run_next.new.machine c.phases.refused _ _ _
-    (rw (c.phases-test.true) at c.phases.invariant.so_far) c.in-Err.ensures.next
+    (rw (c.phases-test.true) at c.phases.invariant.so_far) c.in-Err.ensures.next c.in-Err.ensures.may_end
 
 pub returns-then-refused-clause-outcome : goal.returns-then-refused-clause-outcome
 returns-then-refused-clause-outcome g c =
