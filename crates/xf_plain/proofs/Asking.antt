@@ -1,7 +1,6 @@
 -- What a flow comes to.
-use Rattle.std.proofs.Common.{arith, length, ◌<◌, ◌≡◌, ◌≢◌, ℕ, Bool, true, false, cond, refl, ap, sym, ◌∙◌, subst, List, [], ◌∷◌, ◌||◌, map}
+use Rattle.std.proofs.Common.{arith, length, ◌<◌, ◌≡◌, ◌≢◌, ℕ, true, false, cond, refl, ap, sym, ◌∙◌, subst}
 use Rattle.std.specs.Prelude.{Option, None, Some}
-use Rattle.std.specs.List.{list_any}
 use Rattle.std.proofs.lemmas.Bool.Decides.{nat_tests}
 use Rattle.xf_types.specs.declared.network.Addr.{Addr}
 use Rattle.xf_types.specs.declared.network.Flow.{Flow}
@@ -9,7 +8,6 @@ use Rattle.xf_types.specs.declared.policy.Action.{Action}
 use Rattle.xf_types.specs.declared.policy.Action.TheVariants.{Allow, Block}
 use Rattle.xf_types.specs.declared.policy.Policy.{Policy}
 use Rattle.xf_types.specs.declared.policy.Template.{Template}
-use Rattle.xf_types.specs.declared.state.Sa.{Sa}
 use Rattle.xf_types.specs.declared.state.SaSpec.{SaSpec}
 use Rattle.xf_types.specs.declared.call.Reply.{Reply}
 use Rattle.xf_types.specs.declared.call.Reply.TheVariants.{NoMemory, FlowNone, Acquire}
@@ -22,19 +20,8 @@ use Rattle.xf_types.specs.PolicyList.{first_policy}
 use Rattle.xf_types.specs.Resolution.{Resolution, Through, Waits, Wants}
 use Rattle.xf_types.specs.StateList.{is_none}
 use Rattle.xf_types.specs.StateRules.{is_full, full_of_states}
-use Rattle.xf_held.specs.View.{HeldView}
-use Rattle.xf_plain.specs.Table.{TableView, table_of}
 use Rattle.xf_plain.specs.Wanted.{acquired_as}
 use Rattle.xf_plain.proofs.Packets.{IsSettled}
-
--- a test of the states, asked of what is held
-any-states : (test : Sa → Bool) (hs : List HeldView) → list_any (λ h. test h.state) hs ≡ list_any test (map (λ (h : HeldView). h.state) hs)
-any-states test [] = refl
-any-states test (h ∷ hs) = ap (λ b. test h.state || b) (any-states test hs)
-
-pub any-held : (test : Sa → Bool) (hs : List HeldView) (t : TableView) → table_of hs ≡ t → list_any (λ h. test h.state) hs ≡ list_any test t.states
-any-held test hs t is_t =
-    subst (λ (u : TableView). list_any (λ (h : HeldView). test h.state) hs ≡ list_any test u.states) is_t (any-states test hs)
 
 -- a template that wants a state
 pub wants-answer : (s : Shown) (flow : Flow) (p : Policy) (t : Template) (place : ℕ) (src dst : Addr) (wants : Policy → WantAnswer)

@@ -12,7 +12,7 @@ use Rattle.xf_types.specs.StateList.{has_sid, changed}
 use Rattle.xf_types.specs.StateRules.{refreshed_record}
 use Rattle.xf_types.specs.TrafficRules.{Fate, Same, Ends, Becomes, Treated}
 use Rattle.xf_plain.specs.Kept.{AreKeptStates}
-use Rattle.xf_plain.specs.Table.{TableView, Puts, table_changed, table_put}
+use Rattle.xf_states.specs.Table.{TableView, Puts, table_changed, table_put}
 use Rattle.xf_plain.proofs.Inserting.{length-without}
 
 -- when some leave

@@ -1,14 +1,8 @@
 pub mod Places
 pub mod Inserting
-pub mod Numbers
 pub mod Growing
-pub mod Tables
-pub mod Fates
-pub mod Founds
 pub mod KeptStates
 pub mod Packets
 pub mod Adding
-pub mod Walks
 pub mod Ages
 pub mod Asking
-pub mod FreeSpis

@@ -14,7 +14,7 @@ use Rattle.xf_types.specs.OwnParts.{own_in}
 use Rattle.xf_types.specs.Replay.{Fresh, Zero, Old, Seen, replay_check, accepted_with, top}
 use Rattle.xf_types.specs.TrafficRules.{Fate, Same, Ends, Becomes, Treated, treated, charged, last_number, output_at, sent_or_overflow, packet_at, by_window, by_integrity, within_limits, verdict_at}
 use Rattle.xf_plain.specs.Growth.{GrowsLittle}
-use Rattle.xf_plain.specs.Table.{TableView, Puts, own_in_table, table_put}
+use Rattle.xf_states.specs.Table.{TableView, Puts, own_in_table, table_put}
 use Rattle.xf_plain.proofs.KeptStates.{at-some}
 
 -- ---- the reply

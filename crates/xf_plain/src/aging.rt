@@ -1,9 +1,10 @@
 //! What the passing of time does to policies. Times are in seconds. No use limit of a policy is enforced.
-ghost use Rattle.std.specs.Prelude.{◌≡◌, ◌++◌, OnOk, filter_map, map, option_to_list};
+ghost use Rattle.std.specs.Prelude.{◌≡◌, ◌++◌, OnOk, filter_map, map};
 ghost use Rattle.xf_types.specs.PolicyList.{without};
 ghost use Rattle.xf_types.specs.TickRules as rule;
 
 use xf_life::{Verdict, by_time};
+use xf_states::push_some;
 use xf_types::{Event, NoMemory, Policy};
 
 /// Whether time ends the policy.
@@ -64,18 +65,6 @@ pub fn age_policies(policies: &mut Vec<Policy>, now: u64)
 {
     remove_ended(policies, now);
     age_all(policies, now);
-}
-
-/// Puts an event, if there is one, behind those so far.
-pub fn push_some(events: &mut Vec<Event>, event: Option<Event>) -> Result<(), NoMemory>
-    ensures { OnOk result (events.new.items ≡ events.old.items ++ option_to_list event) }
-{
-    if let Some(event) = event {
-        if events.push(event).is_err() {
-            return Err(NoMemory);
-        }
-    }
-    Ok(())
 }
 
 /// Puts what is reported of the policies behind the events so far.

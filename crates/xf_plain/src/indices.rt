@@ -3,7 +3,6 @@ ghost use Rattle.std.specs.Prelude.{◌≡◌, ◌+◌, ◌*◌, ◌<◌, ◌≤
 ghost use Rattle.std.specs.List.{list_any};
 ghost use Rattle.xf_types.specs.Counters.{first_free, next_in};
 ghost use Rattle.xf_types.specs.PolicyList.{has_index};
-ghost use Rattle.xf_types.specs.FlowRules.{last_seq};
 ghost use Rattle.xf_types.specs.PolicyRules.{last_index};
 ghost use Rattle.xf_types.specs.Same.{dir_number};
 
@@ -47,13 +46,4 @@ pub fn free_number(policies: &[Policy], dir: Dir, from: u32) -> u32
         k = next_number(k);
     }
     k
-}
-
-/// The acquire number after this one, in cyclic order from 1.
-pub fn next_seq(seq: u32) -> u32
-    ensures value { result ≡ next_in last_seq seq }
-    ensures low { 0 < result }
-    ensures high { result ≤ last_seq }
-{
-    if seq == u32::MAX { 1 } else { seq + 1 }
 }

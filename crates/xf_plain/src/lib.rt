@@ -7,8 +7,6 @@ mod indices;
 mod listing;
 mod plain;
 mod removing;
-mod spis;
-mod table;
 #[cfg(test)]
 mod tests;
 

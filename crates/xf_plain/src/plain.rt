@@ -8,10 +8,10 @@ mod spis;
 mod states;
 mod time;
 
-use crate::table::StateTable;
 use crate::{indices, listing};
 use std::alloc::Global;
 use std::marker::Model;
+use xf_states::StateTable;
 use xf_types::{Call, NoMemory, Policy, PolicySpec, Reply};
 
 /// The two databases as plain lists. A contract sees it as the machine.

@@ -6,9 +6,9 @@ ghost use Rattle.xf_types.specs.FlowRules as rule;
 ghost use Rattle.xf_types.specs.PolicyList.{first_policy};
 
 use super::Plain;
-use crate::indices::next_seq;
 use crate::listing;
 use xf_paths::Resolved;
+use xf_states::next_seq;
 use xf_types::{Action, Addr, Dir, Flow, Limits, Path, Policy, Reply, SaSpec, Template};
 
 /// A template that wants a state: its policy's index, its place from 0, and the state that it asks for, which has no sequence

@@ -1,7 +1,7 @@
 use Rattle.std.proofs.Common.{◌<◌, length, subst}
 use Rattle.xf_types.specs.declared.policy.Policy.{Policy}
 use Rattle.xf_types.specs.TickRules.{policy_later}
-use Rattle.xf_plain.proofs.Walks.{mapped-more}
+use Rattle.xf_states.proofs.Walks.{mapped-more}
 use Rattle.xf_plain.proofs.aging.age_all.Goals as goal
 
 pub loop-policy-preserved : goal.loop-policy-preserved

@@ -1,5 +1,5 @@
 use Rattle.xf_types.specs.TickRules.{policy_event}
-use Rattle.xf_plain.proofs.Walks.{collects}
+use Rattle.xf_states.proofs.Walks.{collects}
 use Rattle.xf_plain.proofs.aging.report_policies.Goals as goal
 
 pub loop-policy-preserved : goal.loop-policy-preserved

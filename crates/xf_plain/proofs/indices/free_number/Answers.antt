@@ -3,7 +3,7 @@ use Rattle.std.specs.List.{list_any}
 use Rattle.xf_types.specs.PolicyList.{has_index}
 use Rattle.xf_types.specs.PolicyRules.{last_index}
 use Rattle.xf_types.specs.Same.{dir_number}
-use Rattle.xf_plain.proofs.Numbers.{first_free-taken}
+use Rattle.xf_states.proofs.Numbers.{first_free-taken}
 use Rattle.xf_plain.proofs.indices.free_number.Goals as goal
 
 pub tries-preserved : goal.tries-preserved

@@ -5,7 +5,7 @@ use Rattle.xf_types.specs.Machine.{Machine}
 use Rattle.xf_types.specs.OneState.{on_found}
 use Rattle.xf_types.specs.StateList.{has_sid}
 use Rattle.xf_types.specs.TrafficRules.{output_at}
-use Rattle.xf_plain.specs.Table.{own_in_table}
+use Rattle.xf_states.specs.Table.{own_in_table}
 use Rattle.xf_plain.proofs.KeptStates.{kept-treated}
 use Rattle.xf_plain.proofs.Packets.{answers-treated, contended-output, memory-output}
 use Rattle.xf_plain.proofs.plain.Plain.output.Goals as goal

@@ -4,7 +4,7 @@ use Rattle.xf_types.specs.Machine.{Machine}
 use Rattle.xf_types.specs.OneState.{on_found}
 use Rattle.xf_types.specs.StateList.{latest_match}
 use Rattle.xf_types.specs.TrafficRules.{packet_at, id_of_packet}
-use Rattle.xf_plain.specs.Table.{own_in_table}
+use Rattle.xf_states.specs.Table.{own_in_table}
 use Rattle.xf_plain.proofs.KeptStates.{kept-treated}
 use Rattle.xf_plain.proofs.Packets.{answers-treated, contended-packet, memory-packet}
 use Rattle.xf_plain.proofs.plain.Plain.packet.Goals as goal

@@ -3,7 +3,7 @@ use Rattle.xf_types.specs.Machine.{Machine}
 use Rattle.std.specs.Prelude.{None}
 use Rattle.xf_types.specs.StateList.{is_that}
 use Rattle.xf_held.specs.View.{HeldView}
-use Rattle.xf_plain.specs.Table.{TableView}
+use Rattle.xf_states.specs.Table.{TableView}
 use Rattle.xf_plain.proofs.KeptStates.{kept-replaced}
 use Rattle.xf_plain.proofs.plain.Plain.put_larval.Goals as goal
 

@@ -2,7 +2,7 @@ use Rattle.std.proofs.Common.{◌<◌, ap, sym, subst, length}
 use Rattle.xf_types.specs.Machine.{Machine}
 use Rattle.xf_types.specs.StateList.{is_that}
 use Rattle.xf_held.specs.View.{HeldView}
-use Rattle.xf_plain.specs.Table.{TableView}
+use Rattle.xf_states.specs.Table.{TableView}
 use Rattle.xf_plain.proofs.KeptStates.{kept-replaced}
 use Rattle.xf_plain.proofs.plain.Plain.put_state.Goals as goal
 

@@ -1,6 +1,6 @@
 use Rattle.std.proofs.Common.{ap}
 use Rattle.xf_types.specs.StateList.{state_meets}
-use Rattle.xf_plain.specs.Table.{TableView}
+use Rattle.xf_states.specs.Table.{TableView}
 use Rattle.xf_plain.proofs.KeptStates.{kept-without}
 use Rattle.xf_plain.proofs.plain.Plain.state_deleteall.Goals as goal
 

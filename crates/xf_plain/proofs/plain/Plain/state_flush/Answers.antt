@@ -1,7 +1,7 @@
 use Rattle.std.proofs.Common.{ap}
 use Rattle.xf_types.specs.declared.state.Sa.{Sa}
 use Rattle.xf_types.specs.Same.{meets_one, same_proto}
-use Rattle.xf_plain.specs.Table.{TableView}
+use Rattle.xf_states.specs.Table.{TableView}
 use Rattle.xf_plain.proofs.KeptStates.{kept-without}
 use Rattle.xf_plain.proofs.plain.Plain.state_flush.Goals as goal
 

@@ -1,5 +1,5 @@
 use Rattle.std.proofs.Common.{ap}
-use Rattle.xf_plain.specs.Table.{TableView}
+use Rattle.xf_states.specs.Table.{TableView}
 use Rattle.xf_plain.proofs.Ages.{IsKept-later, kept-later}
 use Rattle.xf_plain.proofs.plain.Plain.tick.Goals as goal
 

@@ -1,0 +1,2 @@
+pub mod Spis
+pub mod Table
