@@ -178,6 +178,18 @@ fn check_all<R: Threads + Wait + Abort>(
     Ok(())
 }
 
+/// A batch of `xfrm one` without faults has this text and status, also where its bytes come one by one.
+fn runs<R: Threads + Wait + Abort>(
+    rt: &R,
+    alloc: Global,
+    table: &str,
+    lines: &[&[u8]],
+    text: &[u8],
+    status: Status,
+) -> Result<(), Fail> {
+    check_case(rt, alloc, table, 0, &one(lines, text, status))
+}
+
 /// A large batch of `xfrm one` without faults has this text and status.
 fn answers<R: Threads + Wait + Abort>(
     rt: &R,

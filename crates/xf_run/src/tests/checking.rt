@@ -1,6 +1,10 @@
 //! Worked batches that are read and not run.
 use super::{Case, FLOW, POLICY, SEND, SYNC, bad, check_all, check_whole, one, repeated};
+use std::alloc::Global;
+use std::process::Abort;
+use std::sync::Wait;
 use std::test::Fail;
+use std::thread::Threads;
 use xf_types::{Reason, Status};
 
 /// A batch of `xfrm check` without faults.
@@ -113,15 +117,25 @@ fn batches_that_are_only_read(rt: HostRuntime) -> Result<(), Fail> {
     check_all(&rt, rt.alloc(), "check", &cases)
 }
 
+/// A large batch of `xfrm check` without faults has this text and status.
+fn counts<R: Threads + Wait + Abort>(
+    rt: &R,
+    alloc: Global,
+    lines: &[&[u8]],
+    text: &[u8],
+    status: Status,
+) -> Result<(), Fail> {
+    check_whole(rt, alloc, "counts", 0, &checked(lines, text, status))
+}
+
 // As many call lines as two phases may have, and one more.
 #[test]
 fn full_phases_are_counted(rt: HostRuntime) -> Result<(), Fail> {
     let flows = repeated(rt.alloc(), FLOW, 16_384)?;
     let lines = [flows.as_slice(), SYNC, &flows];
-    let case = checked(&lines, b"phases 2 lines 32768\n", Status::Done);
-    check_whole(&rt, rt.alloc(), "full phases", 0, &case)?;
+    let text = b"phases 2 lines 32768\n";
+    counts(&rt, rt.alloc(), &lines, text, Status::Done)?;
     let lines = [flows.as_slice(), SYNC, &flows, FLOW];
-    let status = bad(32_770, Reason::Phase);
-    let case = checked(&lines, b"bad line 32770: phase\n", status);
-    check_whole(&rt, rt.alloc(), "full phases", 1, &case)
+    let text = b"bad line 32770: phase\n";
+    counts(&rt, rt.alloc(), &lines, text, bad(32_770, Reason::Phase))
 }

@@ -1,6 +1,12 @@
 //! Sources and sinks that fail.
-use super::{Case, FLOW, LIST, POLICY, SEND, SYNC, bad, check_all, one, padded, repeated};
+use super::{
+    Case, FLOW, LIST, POLICY, SEND, SYNC, bad, check_all, check_whole, one, padded, repeated,
+};
+use std::alloc::Global;
+use std::process::Abort;
+use std::sync::Wait;
 use std::test::Fail;
+use std::thread::Threads;
 use xf_types::{Reason, Status};
 
 #[test]
@@ -72,44 +78,47 @@ fn sources_that_fail(rt: HostRuntime) -> Result<(), Fail> {
     check_all(&rt, rt.alloc(), "sources", &cases)
 }
 
+/// A batch whose source fails at these reads.
+fn failing<'a>(
+    read_fails: &'a [u64],
+    lines: &'a [&'a [u8]],
+    text: &'a [u8],
+    status: Status,
+) -> Case<'a> {
+    Case {
+        read_fails,
+        ..one(lines, text, status)
+    }
+}
+
+fn reads<R: Threads + Wait + Abort>(
+    rt: &R,
+    alloc: Global,
+    read_fails: &[u64],
+    lines: &[&[u8]],
+    text: &[u8],
+    status: Status,
+) -> Result<(), Fail> {
+    let case = failing(read_fails, lines, text, status);
+    check_whole(rt, alloc, "reads", 0, &case)
+}
+
 // A read asks for 4,096 bytes, and comes only where no whole line is left.
 #[test]
 fn reads_come_as_needed(rt: HostRuntime) -> Result<(), Fail> {
     let alloc = rt.alloc();
     // the first phase takes the first read's bytes, or one more
-    let (fits, passes) = (padded(alloc, 4090)?, padded(alloc, 4091)?);
-    let within = [fits.as_slice(), SYNC];
-    let past = [passes.as_slice(), SYNC];
+    let within = padded(alloc, 4090)?;
+    reads(&rt, alloc, &[2], &[&within, SYNC], b"1: none\n", Status::ReadFault)?;
+    let past = padded(alloc, 4091)?;
+    reads(&rt, alloc, &[2], &[&past, SYNC], b"", Status::ReadFault)?;
+    reads(&rt, alloc, &[3], &[&past, SYNC], b"1: none\n", Status::ReadFault)?;
+    reads(&rt, alloc, &[4], &[&past, SYNC], b"1: none\n", Status::Done)?;
     // a line that is long at the second read's first byte
-    let letters = repeated(alloc, b"a", 4097)?;
-    let long = [letters.as_slice()];
-    let cases = [
-        Case {
-            read_fails: &[2],
-            ..one(&within, b"1: none\n", Status::ReadFault)
-        },
-        Case {
-            read_fails: &[2],
-            ..one(&past, b"", Status::ReadFault)
-        },
-        Case {
-            read_fails: &[3],
-            ..one(&past, b"1: none\n", Status::ReadFault)
-        },
-        Case {
-            read_fails: &[4],
-            ..one(&past, b"1: none\n", Status::Done)
-        },
-        Case {
-            read_fails: &[2],
-            ..one(&long, b"", Status::ReadFault)
-        },
-        Case {
-            read_fails: &[3],
-            ..one(&long, b"bad line 1: long\n", bad(1, Reason::Long))
-        },
-    ];
-    check_all(&rt, alloc, "reads", &cases)
+    let long = repeated(alloc, b"a", 4097)?;
+    reads(&rt, alloc, &[2], &[&long], b"", Status::ReadFault)?;
+    let status = bad(1, Reason::Long);
+    reads(&rt, alloc, &[3], &[&long], b"bad line 1: long\n", status)
 }
 
 #[test]

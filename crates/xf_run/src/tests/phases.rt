@@ -1,6 +1,6 @@
 //! Worked batches of several phases and workers.
 use super::{
-    Case, FLOW, POLICY, SEND, STATE, STATE_COUNT, SYNC, bad, check_all, check_case, one, repeated,
+    Case, FLOW, POLICY, SEND, STATE, STATE_COUNT, SYNC, bad, check_all, one, repeated, runs,
 };
 use std::test::Fail;
 use xf_types::{Reason, Status};
@@ -280,10 +280,13 @@ fn bad_lines_behind_a_phase(rt: HostRuntime) -> Result<(), Fail> {
             Reason::Unsupported,
         ),
     ];
-    for (i, (line, text, reason)) in rows.iter().enumerate() {
-        let lines = [POLICY, FLOW, SYNC, line];
-        let case = one(&lines, text, bad(4, *reason));
-        check_case(&rt, rt.alloc(), "bad lines behind a phase", i, &case)?;
+    for (line, text, reason) in rows {
+        let mut input = repeated(rt.alloc(), POLICY, 1)?;
+        for more in [FLOW, SYNC, line] {
+            input.extend_from_slice(more)?;
+        }
+        let status = bad(4, reason);
+        runs(&rt, rt.alloc(), "bad lines behind a phase", &[&input], text, status)?;
     }
     Ok(())
 }

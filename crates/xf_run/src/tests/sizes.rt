@@ -1,7 +1,7 @@
 //! As many policies, states, call lines, `list` lines and bytes of a line as there may be, and one more.
 use super::{
-    COUNT, FLOW, LIST, POLICY, SEND, SYNC, answers, bad, check_case, full_list, full_states,
-    numbered, one, padded, repeated,
+    COUNT, FLOW, LIST, POLICY, SEND, SYNC, answers, bad, full_list, full_states, numbered, padded,
+    repeated, runs,
 };
 use std::test::Fail;
 use xf_types::{Reason, Status};
@@ -35,8 +35,9 @@ fn full_phase(rt: HostRuntime) -> Result<(), Fail> {
         (b"worker 16\n", b"bad line 16385: range\n", Reason::Range),
     ];
     for (line, text, reason) in rows {
-        let lines = [counts.as_slice(), line];
-        answers(&rt, rt.alloc(), &lines, text, bad(16_385, reason))?;
+        let mut input = Vec::from_slice(rt.alloc(), &counts)?;
+        input.extend_from_slice(line)?;
+        answers(&rt, rt.alloc(), &[&input], text, bad(16_385, reason))?;
     }
     // also of another worker
     let lines = [counts.as_slice(), b"worker 1\n", COUNT];
@@ -95,49 +96,26 @@ fn lists_of_a_phase(rt: HostRuntime) -> Result<(), Fail> {
 
 #[test]
 fn bytes_of_a_line(rt: HostRuntime) -> Result<(), Fail> {
-    let (line, long) = (padded(rt.alloc(), 4096)?, padded(rt.alloc(), 4097)?);
+    let alloc = rt.alloc();
+    let (line, more) = (padded(alloc, 4096)?, padded(alloc, 4097)?);
+    let (none, long, cut) = (b"1: none\n", b"bad line 1: long\n", b"bad line 1: cut\n");
+    let (is_long, is_cut) = (bad(1, Reason::Long), bad(1, Reason::Cut));
+    runs(&rt, alloc, "whole", &[&line], none, Status::Done)?;
+    // it comes before the line's other faults
+    runs(&rt, alloc, "longer", &[&more, b"\x07"], long, is_long)?;
+    // a backslash that joins doesn't count, nor does one at the end
     let front = &line[..4096];
-    let rows: [(&[&[u8]], &[u8], Status); 9] = [
-        (&[&line], b"1: none\n", Status::Done),
-        // it comes before the line's other faults
-        (
-            &[&long, b"\x07"],
-            b"bad line 1: long\n",
-            bad(1, Reason::Long),
-        ),
-        // a backslash that joins doesn't count, nor does one at the end
-        (&[front, b"\\\n\n"], b"1: none\n", Status::Done),
-        (&[front, b"\\\n"], b"bad line 1: cut\n", bad(1, Reason::Cut)),
-        (&[front, b"\\"], b"bad line 1: cut\n", bad(1, Reason::Cut)),
-        // any other byte does
-        (
-            &[front, b"\\\n "],
-            b"bad line 1: long\n",
-            bad(1, Reason::Long),
-        ),
-        (
-            &[front, b"\\ "],
-            b"bad line 1: long\n",
-            bad(1, Reason::Long),
-        ),
-        (&[front, b"#"], b"bad line 1: long\n", bad(1, Reason::Long)),
-        // in a later phase
-        (
-            &[POLICY, SYNC, &line, &long],
-            b"1: ok index 9\nbad line 4: long\n",
-            bad(4, Reason::Long),
-        ),
-    ];
-    for (i, (lines, text, status)) in rows.iter().enumerate() {
-        check_case(
-            &rt,
-            rt.alloc(),
-            "bytes of a line",
-            i,
-            &one(lines, text, *status),
-        )?;
-    }
-    Ok(())
+    runs(&rt, alloc, "joined", &[front, b"\\\n\n"], none, Status::Done)?;
+    runs(&rt, alloc, "joined to nothing", &[front, b"\\\n"], cut, is_cut)?;
+    runs(&rt, alloc, "cut off", &[front, b"\\"], cut, is_cut)?;
+    // any other byte does
+    runs(&rt, alloc, "joined to more", &[front, b"\\\n "], long, is_long)?;
+    runs(&rt, alloc, "backslash", &[front, b"\\ "], long, is_long)?;
+    runs(&rt, alloc, "comment", &[front, b"#"], long, is_long)?;
+    // in a later phase
+    let text = b"1: ok index 9\nbad line 4: long\n";
+    let status = bad(4, Reason::Long);
+    runs(&rt, alloc, "later", &[POLICY, SYNC, &line, &more], text, status)
 }
 
 // An input may have far more bytes than a line and a phase have room for; none of these reaches its limit.
