@@ -1,3 +1,2 @@
-pub mod HexValues
 pub mod SelectorLaws
 pub mod TemplateLaws

@@ -3,7 +3,7 @@ use Rattle.std.proofs.Common.{◌≡◌, refl, ap, sym, List, [], ◌∷◌, ◌
 use Rattle.std.proofs.lemmas.List.{append_assoc}
 use Rattle.xf_types.specs.declared.policy.Template.{Template}
 use Rattle.xf_types.specs.declared.status.Reason.{Reason}
-use Rattle.xf_read.specs.Grammar.{◌>>=◌}
+use Rattle.xf_grammar.specs.Grammar.{◌>>=◌}
 
 -- those that were read, and then the rest
 abbrev pub joined : List Template → Result (List Template) Reason → Result (List Template) Reason

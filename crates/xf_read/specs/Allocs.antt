@@ -6,10 +6,10 @@ use Rattle.xf_types.specs.declared.network.Addr.{Addr}
 use Rattle.xf_types.specs.declared.policy.Mode.TheVariants.{Transport}
 use Rattle.xf_types.specs.declared.state.AllocSpec.{AllocSpec}
 use Rattle.xf_types.specs.declared.status.Reason.{Reason}
-use Rattle.xf_read.specs.declared.row.Field.{Field}
-use Rattle.xf_read.specs.declared.row.Slot.TheVariants as slot
-use Rattle.xf_read.specs.Grammar.{◌>>=◌}
-use Rattle.xf_read.specs.Lookups.{u32_at, addr_at, ipsec_in, mode_in, required}
+use Rattle.xf_grammar.specs.declared.row.Field.{Field}
+use Rattle.xf_grammar.specs.declared.row.Slot.TheVariants as slot
+use Rattle.xf_grammar.specs.Grammar.{◌>>=◌}
+use Rattle.xf_grammar.specs.Lookups.{u32_at, addr_at, ipsec_in, mode_in, required}
 use Rattle.xf_read.specs.Marks.{mark_of}
 use Rattle.xf_read.specs.Selectors.{source_or_zero, judged_family}
 

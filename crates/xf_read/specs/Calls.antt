@@ -12,18 +12,18 @@ use Rattle.xf_types.specs.declared.policy.PolicySpec.{PolicySpec}
 use Rattle.xf_types.specs.declared.policy.Template.{Template}
 use Rattle.xf_types.specs.declared.status.Reason.{Reason}
 use Rattle.xf_types.specs.declared.status.Reason.TheVariants.{Mixed}
-use Rattle.xf_read.specs.declared.head.Head.{Head}
-use Rattle.xf_read.specs.declared.head.Head.TheVariants as head
+use Rattle.xf_grammar.specs.declared.head.Head.{Head}
+use Rattle.xf_grammar.specs.declared.head.Head.TheVariants as head
+use Rattle.xf_grammar.specs.declared.row.Field.{Field}
+use Rattle.xf_grammar.specs.declared.row.Slot.TheVariants as slot
+use Rattle.xf_grammar.specs.Grammar.{◌>>=◌}
+use Rattle.xf_grammar.specs.Lookups.{own, value_at, has_any, u8_at, u32_at, prefix_at_slot, dir_in, ptype_in, action_in, ipsec_in, required}
 use Rattle.xf_read.specs.declared.policy.TheConstants.{SAME_SLOTS}
 use Rattle.xf_read.specs.declared.reader.Item.{Item}
 use Rattle.xf_read.specs.declared.reader.Item.TheVariants.{One, Sync}
-use Rattle.xf_read.specs.declared.row.Field.{Field}
-use Rattle.xf_read.specs.declared.row.Slot.TheVariants as slot
 use Rattle.xf_read.specs.Allocs.{alloc_of}
 use Rattle.xf_read.specs.Flows.{flow_of, send_of}
-use Rattle.xf_read.specs.Grammar.{◌>>=◌}
 use Rattle.xf_read.specs.Limits.{limits_of}
-use Rattle.xf_read.specs.Lookups.{own, value_at, has_any, u8_at, u32_at, prefix_at_slot, dir_in, ptype_in, action_in, ipsec_in, required}
 use Rattle.xf_read.specs.Marks.{mark_of}
 use Rattle.xf_read.specs.Packets.{packet_of}
 use Rattle.xf_read.specs.Selectors.{source_port, dest_port, judged_ports, judged_families, src_of, selector_with, selector_of, given_end}

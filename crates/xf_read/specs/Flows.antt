@@ -4,12 +4,12 @@ use Rattle.xf_types.specs.declared.network.Dir.{Dir}
 use Rattle.xf_types.specs.declared.network.Dir.TheVariants.{Out}
 use Rattle.xf_types.specs.declared.network.Flow.{Flow}
 use Rattle.xf_types.specs.declared.status.Reason.{Reason}
+use Rattle.xf_grammar.specs.declared.row.Field.{Field}
+use Rattle.xf_grammar.specs.declared.row.Slot.TheVariants as slot
+use Rattle.xf_grammar.specs.Grammar.{◌>>=◌}
+use Rattle.xf_grammar.specs.Lookups.{own, u32_at, addr_at, required}
 use Rattle.xf_read.specs.declared.reader.Item.{Item}
 use Rattle.xf_read.specs.declared.reader.Item.TheVariants.{Send}
-use Rattle.xf_read.specs.declared.row.Field.{Field}
-use Rattle.xf_read.specs.declared.row.Slot.TheVariants as slot
-use Rattle.xf_read.specs.Grammar.{◌>>=◌}
-use Rattle.xf_read.specs.Lookups.{own, u32_at, addr_at, required}
 use Rattle.xf_read.specs.Selectors.{source_port, dest_port, judged_ports, judged_family, proto_of}
 
 -- src and dst are required, and the other words are 0 where they are left out

@@ -1,11 +1,11 @@
 -- From fields to the identity of a state.
 use Rattle.std.specs.Prelude.{List, Result, Ok}
 use Rattle.xf_types.specs.declared.status.Reason.{Reason}
+use Rattle.xf_grammar.specs.declared.row.Field.{Field}
+use Rattle.xf_grammar.specs.declared.row.Slot.TheVariants as slot
+use Rattle.xf_grammar.specs.Grammar.{◌>>=◌}
+use Rattle.xf_grammar.specs.Lookups.{u32_at, addr_at, ipsec_in, required}
 use Rattle.xf_read.specs.declared.identity.Identity.{Identity}
-use Rattle.xf_read.specs.declared.row.Field.{Field}
-use Rattle.xf_read.specs.declared.row.Slot.TheVariants as slot
-use Rattle.xf_read.specs.Grammar.{◌>>=◌}
-use Rattle.xf_read.specs.Lookups.{u32_at, addr_at, ipsec_in, required}
 use Rattle.xf_read.specs.Selectors.{source_or_zero}
 
 -- dst, proto and spi are required

@@ -1,17 +1,17 @@
 -- What a line asks for, or its fault.
 use Rattle.std.specs.Prelude.{◌≡◌, ℕ, List, [], ◌∷◌, Result, Ok, Err}
 use Rattle.xf_types.specs.declared.status.Reason.{Reason}
+use Rattle.xf_lex.specs.Lexing.{Word}
+use Rattle.xf_lex.specs.Lines.{words_of}
+use Rattle.xf_grammar.specs.declared.head.HeadTable.TheVariants.{Start}
+use Rattle.xf_grammar.specs.Grammar.{◌>>=◌, fields_of}
+use Rattle.xf_grammar.specs.Heads.{head_of}
+use Rattle.xf_grammar.specs.Tables.{tables_of, first_of}
 use Rattle.xf_read.specs.declared.fault.ReadFault.{ReadFault}
 use Rattle.xf_read.specs.declared.fault.ReadFault.TheVariants.{Bad, NoMemory}
-use Rattle.xf_read.specs.declared.head.HeadTable.TheVariants.{Start}
 use Rattle.xf_read.specs.declared.reader.Item.{Item}
 use Rattle.xf_read.specs.declared.reader.Item.TheVariants.{Nothing}
 use Rattle.xf_read.specs.Calls.{asked_of}
-use Rattle.xf_read.specs.Grammar.{◌>>=◌, fields_of}
-use Rattle.xf_read.specs.Heads.{head_of}
-use Rattle.xf_lex.specs.Lexing.{Word}
-use Rattle.xf_lex.specs.Lines.{words_of}
-use Rattle.xf_read.specs.Tables.{tables_of, first_of}
 
 -- a line without words is nothing; else its head says which words may follow, and what they ask for
 unfoldable pub words_item : List Word → Result Item Reason

@@ -1,10 +1,3 @@
-pub mod Keywords
-pub mod Tables
-pub mod Heads
-pub mod Numbers
-pub mod Grammar
-pub mod Seen
-pub mod Lookups
 pub mod Selectors
 pub mod Thresholds
 pub mod Marks

@@ -1,9 +1,9 @@
 -- From fields to limits.
 use Rattle.std.specs.Prelude.{List, unwrap_or}
 use Rattle.xf_types.specs.declared.policy.Limits.{Limits}
-use Rattle.xf_read.specs.declared.row.Field.{Field}
-use Rattle.xf_read.specs.declared.row.Slot.TheVariants as slot
-use Rattle.xf_read.specs.Lookups.{u64_at}
+use Rattle.xf_grammar.specs.declared.row.Field.{Field}
+use Rattle.xf_grammar.specs.declared.row.Slot.TheVariants as slot
+use Rattle.xf_grammar.specs.Lookups.{u64_at}
 
 -- a time of 0 is no limit; a byte or packet limit of 0 is a limit
 unfoldable pub limits_of : List Field → Limits

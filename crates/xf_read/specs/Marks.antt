@@ -1,9 +1,9 @@
 -- From fields to marks.
 use Rattle.std.specs.Prelude.{ℕ, ◌^◌, ◌-◌, List, Option, None, Some, unwrap_or, bit_and}
 use Rattle.xf_types.specs.declared.network.Mark.{Mark}
-use Rattle.xf_read.specs.declared.row.Field.{Field}
-use Rattle.xf_read.specs.declared.row.Slot.TheVariants as slot
-use Rattle.xf_read.specs.Lookups.{u32_at}
+use Rattle.xf_grammar.specs.declared.row.Field.{Field}
+use Rattle.xf_grammar.specs.declared.row.Slot.TheVariants as slot
+use Rattle.xf_grammar.specs.Lookups.{u32_at}
 
 -- a mark without a mask is compared whole, and no mark masks all away
 abbrev pub mark_by : Option ℕ → Option ℕ → Mark

@@ -2,12 +2,12 @@
 use Rattle.std.specs.Prelude.{ℕ, true, List, unwrap_or, Result, Ok}
 use Rattle.xf_types.specs.declared.call.Packet.{Packet}
 use Rattle.xf_types.specs.declared.status.Reason.{Reason}
+use Rattle.xf_grammar.specs.declared.row.Field.{Field}
+use Rattle.xf_grammar.specs.declared.row.Slot.TheVariants as slot
+use Rattle.xf_grammar.specs.Grammar.{◌>>=◌}
+use Rattle.xf_grammar.specs.Lookups.{u32_at, u64_at, icv_in, required}
 use Rattle.xf_read.specs.declared.identity.Identity.{Identity}
-use Rattle.xf_read.specs.declared.row.Field.{Field}
-use Rattle.xf_read.specs.declared.row.Slot.TheVariants as slot
-use Rattle.xf_read.specs.Grammar.{◌>>=◌}
 use Rattle.xf_read.specs.Identity.{identity_of}
-use Rattle.xf_read.specs.Lookups.{u32_at, u64_at, icv_in, required}
 use Rattle.xf_read.specs.Selectors.{judged_family}
 use Rattle.xf_read.specs.States.{sequence_number, sequence_number_fits}
 

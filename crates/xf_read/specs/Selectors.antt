@@ -8,11 +8,11 @@ use Rattle.xf_types.specs.declared.status.Reason.{Reason}
 use Rattle.xf_types.specs.declared.status.Reason.TheVariants.{Mixed, Family, Ports}
 use Rattle.xf_types.specs.Address.{family_of}
 use Rattle.xf_types.specs.Prefixes.{prefix_at}
-use Rattle.xf_read.specs.declared.row.Field.{Field}
-use Rattle.xf_read.specs.declared.row.Slot.TheVariants as slot
-use Rattle.xf_read.specs.declared.row.Value.{Value}
-use Rattle.xf_read.specs.Grammar.{◌>>=◌}
-use Rattle.xf_read.specs.Lookups.{has_in_group, u8_in_group, u16_in_group, prefix_in_group, as_prefix}
+use Rattle.xf_grammar.specs.declared.row.Field.{Field}
+use Rattle.xf_grammar.specs.declared.row.Slot.TheVariants as slot
+use Rattle.xf_grammar.specs.declared.row.Value.{Value}
+use Rattle.xf_grammar.specs.Grammar.{◌>>=◌}
+use Rattle.xf_grammar.specs.Lookups.{has_in_group, u8_in_group, u16_in_group, prefix_in_group, as_prefix}
 
 -- ---- ports, and ICMP types and codes in their places
 

@@ -8,13 +8,13 @@ use Rattle.xf_types.specs.declared.state.SaFilter.{SaFilter}
 use Rattle.xf_types.specs.declared.state.SaId.{SaId}
 use Rattle.xf_types.specs.declared.state.SaSpec.{SaSpec}
 use Rattle.xf_types.specs.declared.status.Reason.{Reason}
+use Rattle.xf_grammar.specs.declared.row.Field.{Field}
+use Rattle.xf_grammar.specs.declared.row.Slot.TheVariants as slot
+use Rattle.xf_grammar.specs.Grammar.{◌>>=◌}
+use Rattle.xf_grammar.specs.Lookups.{has, has_in_group, u32_at, u64_at, addr_at, ipsec_in, mode_in}
 use Rattle.xf_read.specs.declared.identity.Identity.{Identity}
-use Rattle.xf_read.specs.declared.row.Field.{Field}
-use Rattle.xf_read.specs.declared.row.Slot.TheVariants as slot
-use Rattle.xf_read.specs.Grammar.{◌>>=◌}
 use Rattle.xf_read.specs.Identity.{identity_of}
 use Rattle.xf_read.specs.Limits.{limits_of}
-use Rattle.xf_read.specs.Lookups.{has, has_in_group, u32_at, u64_at, addr_at, ipsec_in, mode_in}
 use Rattle.xf_read.specs.Marks.{mark_of, sought_mark}
 use Rattle.xf_read.specs.Selectors.{source_port, dest_port, judged_family, judged_ends, selector_with}
 

@@ -6,11 +6,11 @@ use Rattle.xf_types.specs.declared.policy.Level.TheVariants.{Required}
 use Rattle.xf_types.specs.declared.policy.Mode.TheVariants.{Transport}
 use Rattle.xf_types.specs.declared.policy.Template.{Template}
 use Rattle.xf_types.specs.declared.status.Reason.{Reason}
-use Rattle.xf_read.specs.declared.row.Field.{Field}
-use Rattle.xf_read.specs.declared.row.Slot.TheVariants as slot
+use Rattle.xf_grammar.specs.declared.row.Field.{Field}
+use Rattle.xf_grammar.specs.declared.row.Slot.TheVariants as slot
+use Rattle.xf_grammar.specs.Grammar.{◌>>=◌}
+use Rattle.xf_grammar.specs.Lookups.{has_in_group, u32_in_group, addr_in_group, ipsec_in_group, mode_in_group, level_in_group, required}
 use Rattle.xf_read.specs.declared.template.TheConstants.{BEHIND_TMPL}
-use Rattle.xf_read.specs.Grammar.{◌>>=◌}
-use Rattle.xf_read.specs.Lookups.{has_in_group, u32_in_group, addr_in_group, ipsec_in_group, mode_in_group, level_in_group, required}
 use Rattle.xf_read.specs.Selectors.{zero_of, judged_family}
 
 -- an address that is left out is the zero address of the other's family, and of the policy's where both are left out

@@ -7,9 +7,9 @@ use Rattle.std.proofs.lemmas.Option.{none-some, same_Some}
 use Rattle.xf_types.specs.declared.policy.Thresholds.{Thresholds}
 use Rattle.xf_types.specs.declared.status.Reason.{Reason}
 use Rattle.xf_types.specs.declared.status.Reason.TheVariants.{Missing}
-use Rattle.xf_read.specs.declared.row.Field.{Field}
-use Rattle.xf_read.specs.declared.row.Slot.TheVariants as slot
-use Rattle.xf_read.specs.Lookups.{u8_at}
+use Rattle.xf_grammar.specs.declared.row.Field.{Field}
+use Rattle.xf_grammar.specs.declared.row.Slot.TheVariants as slot
+use Rattle.xf_grammar.specs.Lookups.{u8_at}
 
 -- a pair of lengths that are no longer than an address: the range of the table's words says the same
 abbrev pub lengths : ℕ → Option ℕ → Option ℕ → Option (ℕ × ℕ)

@@ -3,13 +3,13 @@ use Rattle.std.specs.Prelude.{List, Option, Some, Result, Ok, Err}
 use Rattle.xf_types.specs.declared.call.Call.TheVariants.{Tick}
 use Rattle.xf_types.specs.declared.status.Reason.{Reason}
 use Rattle.xf_types.specs.declared.status.Reason.TheVariants.{Missing}
+use Rattle.xf_grammar.specs.declared.row.Field.{Field}
+use Rattle.xf_grammar.specs.declared.row.Slot.TheVariants as slot
+use Rattle.xf_grammar.specs.declared.row.Value.{Value}
+use Rattle.xf_grammar.specs.declared.row.Value.TheVariants as value
+use Rattle.xf_grammar.specs.Lookups.{value_at}
 use Rattle.xf_read.specs.declared.reader.Item.{Item}
 use Rattle.xf_read.specs.declared.reader.Item.TheVariants.{TickNow, One}
-use Rattle.xf_read.specs.declared.row.Field.{Field}
-use Rattle.xf_read.specs.declared.row.Slot.TheVariants as slot
-use Rattle.xf_read.specs.declared.row.Value.{Value}
-use Rattle.xf_read.specs.declared.row.Value.TheVariants as value
-use Rattle.xf_read.specs.Lookups.{value_at}
 
 -- time goes on to what the clock says, or to a number; one of the two is required
 abbrev pub tick_to : Option Value → Result Item Reason

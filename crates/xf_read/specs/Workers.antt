@@ -1,12 +1,12 @@
 -- From fields to the worker of the lines that follow.
 use Rattle.std.specs.Prelude.{List, Result, Ok}
 use Rattle.xf_types.specs.declared.status.Reason.{Reason}
+use Rattle.xf_grammar.specs.declared.row.Field.{Field}
+use Rattle.xf_grammar.specs.declared.row.Slot.TheVariants as slot
+use Rattle.xf_grammar.specs.Grammar.{◌>>=◌}
+use Rattle.xf_grammar.specs.Lookups.{u32_at, required}
 use Rattle.xf_read.specs.declared.reader.Item.{Item}
 use Rattle.xf_read.specs.declared.reader.Item.TheVariants.{Worker}
-use Rattle.xf_read.specs.declared.row.Field.{Field}
-use Rattle.xf_read.specs.declared.row.Slot.TheVariants as slot
-use Rattle.xf_read.specs.Grammar.{◌>>=◌}
-use Rattle.xf_read.specs.Lookups.{u32_at, required}
 
 -- the worker to which the lines that follow belong, which is required
 unfoldable pub worker_of : List Field → Result Item Reason

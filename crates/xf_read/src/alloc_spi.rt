@@ -2,10 +2,9 @@
 ghost use Rattle.std.specs.Prelude.{◌≡◌};
 ghost use Rattle.xf_read.specs.Allocs as rule;
 
-use crate::lookup::{addr_at, ipsec_in, mode_in, u32_at};
 use crate::mark::mark_of;
-use crate::row::{Field, Slot};
 use crate::selector::{judge_family, source_or_zero};
+use xf_grammar::{Field, Slot, addr_at, ipsec_in, mode_in, u32_at};
 use xf_types::{Addr, AllocSpec, Mode, Proto, Reason};
 
 // The SPIs below are reserved (RFC 4303, 2.1).

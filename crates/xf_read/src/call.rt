@@ -4,16 +4,14 @@ ghost use Rattle.xf_read.specs.Calls as rule;
 
 use crate::alloc_spi::read_alloc;
 use crate::flow::{read_flow, read_send};
-use crate::head::Head;
-use crate::lookup::{ipsec_in, ptype_in};
 use crate::packet::read_packet;
 use crate::policy::{read_filter, read_key, read_spec};
 use crate::reader::Item;
-use crate::row::Field;
 use crate::state::{read_sa, read_sa_filter, read_sa_id};
 use crate::thresholds::read_thresholds;
 use crate::tick::read_tick;
 use crate::worker::read_worker;
+use xf_grammar::{Field, Head, ipsec_in, ptype_in};
 use xf_types::{Call, Reason};
 
 /// What a line asks for, by its head and its fields.

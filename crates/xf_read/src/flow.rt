@@ -2,10 +2,9 @@
 ghost use Rattle.std.specs.Prelude.{◌≡◌};
 ghost use Rattle.xf_read.specs.Flows as rule;
 
-use crate::lookup::{OWN, addr_at, u32_at};
 use crate::reader::Item;
-use crate::row::{Field, Slot};
 use crate::selector::{dest_port, judge_family, judge_ports, proto_of, source_port};
+use xf_grammar::{Field, OWN, Slot, addr_at, u32_at};
 use xf_types::{Dir, Flow, Reason};
 
 /// The flow that a line asks for.

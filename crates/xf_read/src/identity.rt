@@ -2,9 +2,8 @@
 ghost use Rattle.std.specs.Prelude.{◌≡◌};
 ghost use Rattle.xf_read.specs.Identity as rule;
 
-use crate::lookup::{addr_at, ipsec_in, u32_at};
-use crate::row::{Field, Slot};
 use crate::selector::source_or_zero;
+use xf_grammar::{Field, Slot, addr_at, ipsec_in, u32_at};
 use xf_types::{Addr, Proto, Reason};
 
 /// What identifies a state: a source that is left out is the zero address of the destination's family.

@@ -2,8 +2,7 @@
 ghost use Rattle.std.specs.Prelude.{◌≡◌};
 ghost use Rattle.xf_read.specs.Limits as rule;
 
-use crate::lookup::u64_at;
-use crate::row::{Field, Slot};
+use xf_grammar::{Field, Slot, u64_at};
 use xf_types::Limits;
 
 /// The limits that a line gives.

@@ -6,11 +6,9 @@ ghost use Rattle.xf_read.specs.Items.{words_item, line_item};
 
 use crate::call::read_asked;
 use crate::fault::ReadFault;
-use crate::fields::Progress;
-use crate::head::{HeadTable, read_head};
 use crate::reader::Item;
-use crate::tables::{first_in, tables_in};
 use std::alloc::Global;
+use xf_grammar::{HeadTable, Progress, first_in, read_head, tables_in};
 use xf_lex::{LineFault, Scan};
 
 /// A reader of lines. Its lists serve one line after another, so that a usual line takes no memory.

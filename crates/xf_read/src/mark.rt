@@ -2,8 +2,7 @@
 ghost use Rattle.std.specs.Prelude.{◌≡◌};
 ghost use Rattle.xf_read.specs.Marks as rule;
 
-use crate::lookup::u32_at;
-use crate::row::{Field, Slot};
+use xf_grammar::{Field, Slot, u32_at};
 use xf_types::Mark;
 
 fn mark_by(value: Option<u32>, mask: Option<u32>) -> Mark

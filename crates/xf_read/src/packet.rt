@@ -4,10 +4,9 @@ ghost use Rattle.xf_types.specs.Facts.{IsPacket};
 ghost use Rattle.xf_read.specs.Packets as rule;
 
 use crate::identity::{Identity, read_identity};
-use crate::lookup::{icv_in, u32_at, u64_at};
-use crate::row::{Field, Slot};
 use crate::selector::judge_family;
 use crate::state::sequence_number;
+use xf_grammar::{Field, Slot, icv_in, u32_at, u64_at};
 use xf_types::{Packet, Reason};
 
 /// A packet with this number, sent to this state.

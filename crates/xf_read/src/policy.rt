@@ -3,16 +3,15 @@ ghost use Rattle.std.specs.Prelude.{◌≡◌};
 ghost use Rattle.xf_read.specs.Calls as rule;
 
 use crate::limits::limits_of;
-use crate::lookup::{
-    OWN, action_in, dir_in, has_any, prefix_at, ptype_in, u8_at, u32_at, value_at,
-};
 use crate::mark::mark_of;
-use crate::row::{Field, Slot};
 use crate::selector::{
     dest_port, given_end, judge_families, judge_ports, read_selector, selector_with, source_port,
     src_of,
 };
 use crate::template::{judge_templates, read_templates};
+use xf_grammar::{
+    Field, OWN, Slot, action_in, dir_in, has_any, prefix_at, ptype_in, u8_at, u32_at, value_at,
+};
 use xf_types::{
     Action, Dir, PolicyFilter, PolicyKey, PolicySpec, Ptype, Reason, Selector, Templates,
 };

@@ -4,8 +4,7 @@ ghost use Rattle.std.specs.Option.{option_map};
 ghost use Rattle.xf_types.specs.Facts.{IsSelector};
 ghost use Rattle.xf_read.specs.Selectors as rule;
 
-use crate::lookup::{has_in_group, prefix_in_group, u8_in_group, u16_in_group};
-use crate::row::{Field, Slot, Value};
+use xf_grammar::{Field, Slot, Value, has_in_group, prefix_in_group, u8_in_group, u16_in_group};
 use xf_types::{Addr, Prefix, Reason, Selector};
 
 fn one_of(port: Option<u16>, other: Option<u16>) -> Result<Option<u16>, Reason>

@@ -5,10 +5,9 @@ ghost use Rattle.xf_read.specs.States as rule;
 
 use crate::identity::{Identity, read_identity};
 use crate::limits::limits_of;
-use crate::lookup::{addr_at, has, has_in_group, ipsec_in, mode_in, u32_at, u64_at};
 use crate::mark::{mark_of, sought_mark};
-use crate::row::{Field, Slot};
 use crate::selector::{dest_port, judge_ends, judge_family, selector_with, source_port};
+use xf_grammar::{Field, Slot, addr_at, has, has_in_group, ipsec_in, mode_in, u32_at, u64_at};
 use xf_types::{Mode, Reason, SaFilter, SaId, SaSpec, Selector};
 
 // The group of the words behind `sel`, which stands once in a line.

@@ -2,12 +2,12 @@
 ghost use Rattle.std.specs.Prelude.{◌≡◌, ◌≤◌, length};
 ghost use Rattle.xf_read.specs.Templates as rule;
 
-use crate::lookup::{
-    addr_in_group, has_in_group, ipsec_in_group, level_in_group, mode_in_group, u32_in_group,
-};
-use crate::row::{Field, Slot};
 use crate::selector::{judge_family, zero_of};
 use arrayvec::ArrayVec;
+use xf_grammar::{
+    Field, Slot, addr_in_group, has_in_group, ipsec_in_group, level_in_group, mode_in_group,
+    u32_in_group,
+};
 use xf_types::{Addr, Level, Mode, Proto, Reason, Template, Templates};
 
 // The groups of the words behind each `tmpl`, which stands up to six times in a line.

@@ -3,8 +3,7 @@ ghost use Rattle.std.specs.Prelude.{◌≡◌};
 ghost use Rattle.xf_types.specs.Facts.{IsThresholds};
 ghost use Rattle.xf_read.specs.Thresholds as rule;
 
-use crate::lookup::u8_at;
-use crate::row::{Field, Slot};
+use xf_grammar::{Field, Slot, u8_at};
 use xf_types::{Reason, Thresholds};
 
 /// A pair of lengths, no longer than an address. The table's range says the same, but a pair doesn't know its table.

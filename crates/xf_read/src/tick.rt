@@ -2,9 +2,8 @@
 ghost use Rattle.std.specs.Prelude.{◌≡◌};
 ghost use Rattle.xf_read.specs.Ticks as rule;
 
-use crate::lookup::value_at;
 use crate::reader::Item;
-use crate::row::{Field, Slot, Value};
+use xf_grammar::{Field, Slot, Value, value_at};
 use xf_types::{Call, Reason};
 
 /// The time to which a line lets time go on.

@@ -2,9 +2,8 @@
 ghost use Rattle.std.specs.Prelude.{◌≡◌};
 ghost use Rattle.xf_read.specs.Workers as rule;
 
-use crate::lookup::u32_at;
 use crate::reader::Item;
-use crate::row::{Field, Slot};
+use xf_grammar::{Field, Slot, u32_at};
 use xf_types::Reason;
 
 /// The worker to which the lines that follow belong.

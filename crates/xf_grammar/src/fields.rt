@@ -1,0 +1,264 @@
+//! The fields of a line's words.
+ghost use Rattle.std.specs.Prelude.{◌≡◌, ◌+◌};
+ghost use Rattle.xf_lex.specs.Gives.{Gives};
+ghost use Rattle.xf_lex.specs.Shown.{shown};
+ghost use Rattle.xf_grammar.specs.Grammar.{row_in, row_among, row_of, was_used, fields_of};
+ghost use Rattle.xf_grammar.specs.Seen.{seen, uses};
+ghost use Rattle.xf_grammar.specs.Tables.{rows_of};
+
+use crate::keyword::Keyword;
+use crate::row::{Arg, Args, Field, Row, Slot, Table, Value};
+use crate::tables::rows_in;
+use crate::values::read_value;
+use std::alloc::Global;
+use xf_lex::LineFault;
+use xf_types::Reason;
+
+/// A word that a group had.
+#[derive(Clone, Copy, Debug)]
+pub(crate) struct Used {
+    pub group: u32,
+    pub word: &'static [u8],
+}
+
+/// What is known between two words.
+#[derive(Debug, Drop)]
+pub struct Progress {
+    pub fields: Vec<Field>,
+    group: u32,
+    opened: u32,
+    following: Table,
+    pending: Args,
+    used: Vec<Used>,
+}
+
+impl Row {
+    ghost use Rattle.xf_grammar.specs.Grammar.{row_word};
+
+    fn word(self) -> Keyword
+        ensures { result ≡ row_word self }
+    {
+        match self {
+            Row::Once(word, _, _) => word,
+            Row::Often(word, _, _) => word,
+            Row::Kept(word, _, _) => word,
+            Row::Opens(word, _, _, _, _) => word,
+            Row::Unsupported(word) => word,
+        }
+    }
+}
+
+fn find_row(rows: &[Row], word: &[u8]) -> Option<Row>
+    ensures { result ≡ row_in rows.now word.now }
+{
+    for row in rows {
+        if row.word().text() == word {
+            return Some(*row);
+        }
+    }
+    None
+}
+
+fn find_among(tables: &[Table], word: &[u8]) -> Option<Row>
+    ensures { result ≡ row_among tables.now word.now }
+{
+    for table in tables {
+        if let Some(row) = find_row(rows_in(*table), word) {
+            return Some(row);
+        }
+    }
+    None
+}
+
+fn is_used(used: &[Used], group: u32, word: &[u8]) -> bool
+    ensures { result ≡ was_used (uses used.now) group word.now }
+{
+    for u in used {
+        if u.group == group && u.word == word {
+            return true;
+        }
+    }
+    false
+}
+
+impl Progress {
+    ghost use Rattle.std.specs.Prelude.{Ok, IfSome};
+    ghost use Rattle.xf_grammar.specs.declared.row.Args.TheVariants as args;
+    ghost use Rattle.xf_grammar.specs.Grammar.{start, put, take_value, entered, kept, enter, enter_found};
+
+    pub fn new(alloc: Global) -> Progress
+        ensures { seen result ≡ start args.None }
+    {
+        Progress {
+            fields: Vec::new(alloc),
+            group: 0,
+            opened: 0,
+            following: Table::None,
+            pending: Args::None,
+            used: Vec::new(alloc),
+        }
+    }
+
+    // Before the first word of a line, where these come first.
+    fn reset(&mut self, first: Args)
+        ensures { seen self.new ≡ start first }
+    {
+        self.fields.clear();
+        self.group = 0;
+        self.opened = 0;
+        self.following = Table::None;
+        self.pending = first;
+        self.used.clear();
+    }
+
+    // Puts a value in its place; the rest comes next.
+    fn put(&mut self, rest: Args, value: Option<(Slot, Value)>) -> Result<(), LineFault>
+        ensures { Gives (λ _. seen self.new) result (Ok (put (seen self.old) rest value)) }
+    {
+        if let Some((slot, value)) = value {
+            self.fields.push(Field {
+                group: self.group,
+                slot,
+                value,
+            })?;
+        }
+        self.pending = rest;
+        Ok(())
+    }
+
+    fn take_value(&mut self, arg: Arg, rest: Args, word: &[u8]) -> Result<(), LineFault>
+        ensures { Gives (λ _. seen self.new) result (take_value (seen self.old) arg rest word.now) }
+    {
+        match read_value(arg, word) {
+            Ok(value) => self.put(rest, value),
+            Err(reason) => Err(LineFault::Bad(reason)),
+        }
+    }
+
+    fn enter_row(&mut self, group: u32, values: Args, next: Table)
+        ensures { seen self.new ≡ entered (seen self.old) group values next }
+    {
+        self.group = group;
+        self.following = next;
+        self.pending = values;
+    }
+
+    // A word without a value was met in this group: that it stands is kept.
+    fn keep(&mut self, group: u32, slot: Slot, next: Table) -> Result<(), LineFault>
+        ensures { Gives (λ _. seen self.new) result (Ok (kept (seen self.old) group slot next)) }
+    {
+        self.enter_row(group, Args::None, next);
+        self.put(Args::None, Some((slot, Value::Bool(true))))
+    }
+
+    // A row's word was met in this group.
+    #[tactic(auto, unfolding(crate::specs::Grammar::enter))]
+    fn enter(&mut self, group: u32, row: Row) -> Result<(), LineFault>
+        ensures { Gives (λ _. seen self.new) result (enter (seen self.old) group row) }
+    {
+        match row {
+            Row::Once(word, values, next) => {
+                if is_used(&self.used, group, word.text()) {
+                    return Err(LineFault::Bad(Reason::Repeated));
+                }
+                self.used.push(Used {
+                    group,
+                    word: word.text(),
+                })?;
+                self.enter_row(group, values, next);
+                Ok(())
+            }
+            Row::Often(_, values, next) => {
+                self.enter_row(group, values, next);
+                Ok(())
+            }
+            Row::Kept(_, slot, next) => self.keep(group, slot, next),
+            Row::Opens(_, slot, next, most, more) => {
+                if self.opened >= most {
+                    return Err(LineFault::Bad(more));
+                }
+                self.opened += 1;
+                self.keep(self.opened, slot, next)
+            }
+            Row::Unsupported(_) => Err(LineFault::Bad(Reason::Unsupported)),
+        }
+    }
+
+    fn enter_found(&mut self, found: Option<(u32, Row)>) -> Result<(), LineFault>
+        ensures { Gives (λ _. seen self.new) result (enter_found (seen self.old) found) }
+    {
+        match found {
+            None => Err(LineFault::Bad(Reason::Word)),
+            Some((group, row)) => self.enter(group, row),
+        }
+    }
+}
+
+impl Progress {
+    ghost use Rattle.std.specs.Prelude.{None};
+    ghost use Rattle.xf_grammar.specs.Grammar.{after_word, ended, in_group};
+
+    // A word is first sought in the table that may follow, and then among the line's own.
+    fn find(&self, tables: &[Table], word: &[u8]) -> Option<(u32, Row)>
+        ensures { result ≡ row_of tables.now (seen self.now) word.now }
+    {
+        if let Some(row) = find_row(rows_in(self.following), word) {
+            return Some((self.group, row));
+        }
+        find_among(tables, word).map(|row| (0, row))
+    }
+
+    // A word of this table has to come.
+    fn find_in(&self, table: Table, word: &[u8]) -> Option<(u32, Row)>
+        ensures { result ≡ in_group self.now.group (row_in (rows_of table) word.now) None }
+    {
+        let group = self.group;
+        find_row(rows_in(table), word).map(|row| (group, row))
+    }
+
+    // Takes the next word.
+    #[tactic(auto, unfolding(crate::specs::Grammar::after_word))]
+    fn after_word(&mut self, tables: &[Table], word: &[u8]) -> Result<(), LineFault>
+        ensures { Gives (λ _. seen self.new) result (after_word tables.now (seen self.old) word.now) }
+    {
+        match self.pending {
+            Args::None => {
+                let found = self.find(tables, word);
+                self.enter_found(found)
+            }
+            Args::One(a) => self.take_value(a, Args::None, word),
+            Args::Two(a, b) => self.take_value(a, Args::One(b), word),
+            Args::Three(a, b, c) => self.take_value(a, Args::Two(b, c), word),
+            Args::Word(table) => {
+                let found = self.find_in(table, word);
+                self.enter_found(found)
+            }
+        }
+    }
+
+    fn end(&self) -> Result<(), LineFault>
+        ensures { Gives (λ _. self.now.fields.items) result (ended self.now.fields.items self.now.pending) }
+    {
+        match self.pending {
+            Args::None => Ok(()),
+            _ => Err(LineFault::Bad(Reason::Missing)),
+        }
+    }
+
+    /// Reads the fields of a line's words, by the tables of its head and by what has to come first.
+    #[tactic(auto, unfolding(crate::specs::Grammar::fields_of))]
+    pub fn read_fields(
+        &mut self,
+        tables: &[Table],
+        first: Args,
+        words: &[Vec<u8>],
+    ) -> Result<(), LineFault>
+        ensures { Gives (λ _. self.new.fields.items) result (fields_of tables.now first (shown words.now)) }
+    {
+        self.reset(first);
+        'words: for word in words {
+            self.after_word(tables, word)?;
+        }
+        self.end()
+    }
+}
