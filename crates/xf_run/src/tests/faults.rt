@@ -109,10 +109,24 @@ fn reads_come_as_needed(rt: HostRuntime) -> Result<(), Fail> {
     let alloc = rt.alloc();
     // the first phase takes the first read's bytes, or one more
     let within = padded(alloc, 4090)?;
-    reads(&rt, alloc, &[2], &[&within, SYNC], b"1: none\n", Status::ReadFault)?;
+    reads(
+        &rt,
+        alloc,
+        &[2],
+        &[&within, SYNC],
+        b"1: none\n",
+        Status::ReadFault,
+    )?;
     let past = padded(alloc, 4091)?;
     reads(&rt, alloc, &[2], &[&past, SYNC], b"", Status::ReadFault)?;
-    reads(&rt, alloc, &[3], &[&past, SYNC], b"1: none\n", Status::ReadFault)?;
+    reads(
+        &rt,
+        alloc,
+        &[3],
+        &[&past, SYNC],
+        b"1: none\n",
+        Status::ReadFault,
+    )?;
     reads(&rt, alloc, &[4], &[&past, SYNC], b"1: none\n", Status::Done)?;
     // a line that is long at the second read's first byte
     let long = repeated(alloc, b"a", 4097)?;

@@ -286,7 +286,14 @@ fn bad_lines_behind_a_phase(rt: HostRuntime) -> Result<(), Fail> {
             input.extend_from_slice(more)?;
         }
         let status = bad(4, reason);
-        runs(&rt, rt.alloc(), "bad lines behind a phase", &[&input], text, status)?;
+        runs(
+            &rt,
+            rt.alloc(),
+            "bad lines behind a phase",
+            &[&input],
+            text,
+            status,
+        )?;
     }
     Ok(())
 }

@@ -104,18 +104,47 @@ fn bytes_of_a_line(rt: HostRuntime) -> Result<(), Fail> {
     // it comes before the line's other faults
     runs(&rt, alloc, "longer", &[&more, b"\x07"], long, is_long)?;
     // a backslash that joins doesn't count, nor does one at the end
-    let front = &line[..4096];
-    runs(&rt, alloc, "joined", &[front, b"\\\n\n"], none, Status::Done)?;
-    runs(&rt, alloc, "joined to nothing", &[front, b"\\\n"], cut, is_cut)?;
-    runs(&rt, alloc, "cut off", &[front, b"\\"], cut, is_cut)?;
+    let mut front = padded(alloc, 4096)?;
+    front.truncate(4096);
+    runs(
+        &rt,
+        alloc,
+        "joined",
+        &[&front, b"\\\n\n"],
+        none,
+        Status::Done,
+    )?;
+    runs(
+        &rt,
+        alloc,
+        "joined to nothing",
+        &[&front, b"\\\n"],
+        cut,
+        is_cut,
+    )?;
+    runs(&rt, alloc, "cut off", &[&front, b"\\"], cut, is_cut)?;
     // any other byte does
-    runs(&rt, alloc, "joined to more", &[front, b"\\\n "], long, is_long)?;
-    runs(&rt, alloc, "backslash", &[front, b"\\ "], long, is_long)?;
-    runs(&rt, alloc, "comment", &[front, b"#"], long, is_long)?;
+    runs(
+        &rt,
+        alloc,
+        "joined to more",
+        &[&front, b"\\\n "],
+        long,
+        is_long,
+    )?;
+    runs(&rt, alloc, "backslash", &[&front, b"\\ "], long, is_long)?;
+    runs(&rt, alloc, "comment", &[&front, b"#"], long, is_long)?;
     // in a later phase
     let text = b"1: ok index 9\nbad line 4: long\n";
     let status = bad(4, Reason::Long);
-    runs(&rt, alloc, "later", &[POLICY, SYNC, &line, &more], text, status)
+    runs(
+        &rt,
+        alloc,
+        "later",
+        &[POLICY, SYNC, &line, &more],
+        text,
+        status,
+    )
 }
 
 // An input may have far more bytes than a line and a phase have room for; none of these reaches its limit.
