@@ -49,6 +49,16 @@ def short(ratio):
     return f"{ratio:.2f}" if ratio >= 0.1 else f"{ratio:.2g}"
 
 
+def rate(lines, run, setup):
+    """Lines a second, or None where the run lasted hardly longer than its setup, so that it tells nothing."""
+    seconds = run.seconds - setup.seconds
+    return lines / seconds if seconds > run.seconds / 20 else None
+
+
+def shown(some):
+    return f"{some:,.0f}" if some else "too few lines"
+
+
 def row(kind, policies, setups, lines):
     states = SIZES.get(policies, policies)
     batch = os.path.join(setups.folder, "measured.batch")
@@ -58,10 +68,10 @@ def row(kind, policies, setups, lines):
     measured = count - setup_count
     if kind == "lists":
         measured = programs.lines_of(best["xfrm"].written) - setup_written
-    rates = {name: measured / max(run.seconds - setup[name].seconds, 1e-6) for name, run in best.items()}
+    ours, other = (rate(measured, best[name], setup[name]) for name in ("xfrm", "baseline"))
     size = "none" if kind == "text" else f"{policies:,}, {states:,}"
-    ours, other = rates["xfrm"], rates["baseline"]
-    print(f"| {kind} | {size} | {measured:,} | {ours:,.0f} | {other:,.0f} | {short(ours / other)} |", flush=True)
+    ratio = short(ours / other) if ours and other else ""
+    print(f"| {kind} | {size} | {measured:,} | {shown(ours)} | {shown(other)} | {ratio} |", flush=True)
 
 
 def main():
