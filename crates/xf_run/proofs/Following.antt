@@ -1,7 +1,7 @@
 -- Where a batch begins, a phase follows or a bad line.
 use Rattle.std.proofs.Common.{◌≡◌, ◌≢◌, ◌⊎◌, inl, inr, ℕ, List, [], ◌∷◌, None, Some}
 use Rattle.xf_types.specs.Batch.{WorkerLine}
-use Rattle.xf_batch.specs.Batch.{Batch, BadLine, Effect, IsBad, GoesOn, Ends, Gathered, Standing, batch_at, batch_from, beginning, behind, by_effect, last_phase, later, line_effect, phase_before, refused_at}
+use Rattle.xf_batch.specs.Batch.{Batch, BadLine, Effect, IsBad, GoesOn, Ends, Gathered, Standing, batch_at, batch_from, beginning, behind, by_effect, later, line_effect, phase_before, refused_at}
 
 -- the batch has a phase, or a bad line
 abbrev pub Follows : Batch → Type 0

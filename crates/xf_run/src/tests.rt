@@ -48,9 +48,6 @@ const STATE_COUNT: &[u8] = b"xfrm state count\n";
 
 const SYNC: &[u8] = b"sync\n";
 
-const USAGE: &[u8] =
-    b"usage: xfrm one | run --workers N [--tries N] [--again] | check | gen --seed N [--workers N]\n";
-
 /// A batch with its words, the clock's answers and its faults, and what must come of it.
 #[derive(Clone, Copy)]
 struct Case<'a> {
