@@ -263,24 +263,3 @@ pub struct Receipt {
     pub call: Call,
     pub reply: Reply,
 }
-
-impl Reply {
-    ghost use Rattle.xf_types.specs.Codes.{is_refusal_of};
-
-    /// Whether the reply refuses its call.
-    pub fn is_refusal(&self) -> bool
-        ensures { result ≡ is_refusal_of self.now }
-    {
-        matches!(
-            self,
-            Reply::PolicyExists(_)
-                | Reply::StateExists(_)
-                | Reply::NoEntry
-                | Reply::NoState
-                | Reply::Invalid
-                | Reply::Full { .. }
-                | Reply::NoSpi
-                | Reply::NoMemory
-        )
-    }
-}

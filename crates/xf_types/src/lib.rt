@@ -2,6 +2,8 @@
 #![tactic(auto)]
 
 mod call;
+mod copies;
+mod kinds;
 mod network;
 mod policy;
 mod refresh;
@@ -17,7 +19,8 @@ pub use policy::{
     Templates, Thresholds,
 };
 pub use same::{
-    meets_ptype, same_addr, same_mark, same_policy, same_port, same_prefix, same_selector,
+    meets_ptype, same_addr, same_mark, same_policy, same_port, same_prefix, same_reply,
+    same_selector,
 };
 pub use stands::Stands;
 pub use state::{AllocSpec, Sa, SaFilter, SaId, SaSpec, Sas};

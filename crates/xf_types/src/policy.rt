@@ -191,7 +191,7 @@ impl Limits {
 }
 
 impl Templates {
-    ghost use Rattle.std.specs.Prelude.{◌≡◌, []};
+    ghost use Rattle.std.specs.Prelude.{◌≡◌, ◌≤◌, [], length};
 
     /// No templates.
     pub fn none() -> Templates
@@ -202,8 +202,10 @@ impl Templates {
         }
     }
 
+    /// The templates, of which there are at most 6.
     pub fn as_slice(&self) -> &[Template]
-        ensures { result.now ≡ self.now }
+        ensures value { result.now ≡ self.now }
+        ensures few { length result.now ≤ 6 }
     {
         self.items.as_slice()
     }

@@ -4,7 +4,8 @@ ghost use Rattle.xf_types.specs.Same as test;
 ghost use Rattle.xf_types.specs.PolicyList as list;
 
 use crate::{
-    Action, Addr, Dir, Mark, Policy, PolicyFilter, PolicyKey, PolicySpec, Prefix, Ptype, Selector,
+    Action, Addr, Dir, Mark, Policy, PolicyFilter, PolicyKey, PolicySpec, Prefix, Ptype, Reply,
+    Selector,
 };
 
 pub fn same_addr(a: &Addr, b: &Addr) -> bool
@@ -55,6 +56,13 @@ pub fn same_policy(a: &PolicySpec, b: &PolicySpec) -> bool
         && a.if_id == b.if_id
         && same_selector(&a.sel, &b.sel)
         && same_mark(&a.mark, &b.mark)
+}
+
+/// Whether two replies are equal, with all that they show.
+pub fn same_reply(a: &Reply, b: &Reply) -> bool
+    ensures { IsTrue result ↔ (a.now ≡ b.now) }
+{
+    *a == *b
 }
 
 impl PolicyKey {
