@@ -4,6 +4,7 @@ ghost use Rattle.std.specs.Prelude.{◌<◌, ◌^◌};
 
 mod checking;
 mod commands;
+mod extended;
 mod faults;
 mod lifetimes;
 mod lines;

@@ -227,7 +227,7 @@ fn full_state() -> Sa {
             in_seq: 7,
             out_seq: 8,
             wildrecv: true,
-            esn: false,
+            esn: true,
             limits: SOME_LIMITS,
         },
     }
@@ -275,7 +275,7 @@ fn records_have_their_texts(rt: HostRuntime) -> Result<(), Fail> {
         (
             at(4, 0),
             Reply::StateShown(full_state()),
-            b"4: state 18446744073709551615 src 2001:db8::1 dst 2001:db8::2 proto comp spi 0x0000ffff reqid 3 mode in_trigger seq 5 mark 0x0000002a mask 0x000000ff if_id 6 replay-window 0 added 100 wildrecv sel src ::1/128 dst ::/0 proto 17 sport 500 dport 65535 limit time-hard 3600 limit byte-hard 0 larval dying\n",
+            b"4: state 18446744073709551615 src 2001:db8::1 dst 2001:db8::2 proto comp spi 0x0000ffff reqid 3 mode in_trigger seq 5 mark 0x0000002a mask 0x000000ff if_id 6 replay-window 0 added 100 wildrecv esn sel src ::1/128 dst ::/0 proto 17 sport 500 dport 65535 limit time-hard 3600 limit byte-hard 0 larval dying\n",
         ),
         (
             at(5, 0),
