@@ -21,9 +21,10 @@ use Rattle.xf_types.specs.Changes.{Answer, applied}
 use Rattle.xf_types.specs.OneState.{on_found, put_back}
 use Rattle.xf_types.specs.TickRules.{policy_ends, policy_event, policy_later, state_ends, state_event, state_later, tick}
 use Rattle.xf_types.specs.Steps.{rule_of, by_rule}
+use Rattle.xf_types.specs.Moves.{state_found}
 use Rattle.xf_types.specs.IsMachine.{IsMachine, AreOwn}
 use Rattle.xf_laws.specs.StepLaws.{beside}
-use Rattle.xf_laws.specs.ReadLaws.{state_for, AreUsedAlike, TellTheSame}
+use Rattle.xf_laws.specs.ReadLaws.{AreUsedAlike, TellTheSame}
 use Rattle.xf_laws.proofs.LocalLemmas.{applied-shown, local_reply, local_shown, own_of-changed}
 use Rattle.xf_laws.proofs.BesideLemmas.{own-beside}
 
@@ -178,7 +179,7 @@ found-alike s a b missing treat (Some x) h k e =
 
 -- the own part of the state that a call is for
 pub own-alike : (s : Shown) (a b : List Own) (c : Call) → IsMachine (beside s a) → IsMachine (beside s b) → TellTheSame s a b c
-    → IfSome (state_for s c)
+    → IfSome (state_found (rule_of s c))
     (λ x. own_in (by_rule (beside s a) (rule_of s c)).machine x ≡ own_in (by_rule (beside s b) (rule_of s c)).machine x)
 own-alike s a b (call.Packet packet) h k e =
     found-alike s a b reply.NoState (packet_at packet) (latest_match s.states (id_of_packet packet)) h.own k.own e
