@@ -26,6 +26,8 @@ pub mod FoldLemmas
 pub mod BesideLemmas
 pub mod ReadLemmas
 pub mod LeaveLemmas
+pub mod TrafficLemmas
+pub mod RemovalLemmas
 pub mod KnownLemmas
 pub mod AcceptLemmas
 pub mod UpdateLemmas

@@ -133,7 +133,7 @@ own_of-none sid [] d = refl
 own_of-none sid (x ∷ states) d = refl
 
 -- a state that left has none
-own_of-gone : (sid : ℕ) (states : List Sa) (own : List Own) (d : Own)
+pub own_of-gone : (sid : ℕ) (states : List Sa) (own : List Own) (d : Own)
     → own_of sid (without (has_sid sid) states) (own_without (has_sid sid) states own) d ≡ d
 own_of-gone sid [] own d = refl
 own_of-gone sid (x ∷ states) [] d = own_of-none sid (without (has_sid sid) (x ∷ states)) d

@@ -21,6 +21,8 @@ pub mod StepLaws
 pub mod MoveLaws
 pub mod ReadLaws
 pub mod LeaveLaws
+pub mod TrafficLaws
+pub mod RemovalLaws
 pub mod AcceptLaws
 pub mod OwnLaws
 pub mod LaterLaws

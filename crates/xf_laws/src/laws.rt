@@ -10,7 +10,9 @@ ghost use Rattle.xf_laws.specs.MachineLaws.{MachineLaws};
 ghost use Rattle.xf_laws.specs.MoveLaws.{MoveLaws};
 ghost use Rattle.xf_laws.specs.OwnLaws.{OwnLaws};
 ghost use Rattle.xf_laws.specs.ReadLaws.{ReadLaws};
+ghost use Rattle.xf_laws.specs.RemovalLaws.{RemovalLaws};
 ghost use Rattle.xf_laws.specs.TestLaws.{EqualityLaws, TestLaws};
+ghost use Rattle.xf_laws.specs.TrafficLaws.{TrafficLaws};
 ghost use Rattle.xf_laws.specs.UpdateLaws.{UpdateLaws};
 
 /// A packet or an output reads the shown part and one own part, and changes no other.
@@ -27,6 +29,16 @@ pub fn reads()
 /// each other state that stays.
 pub fn leaves()
     ensures { LeaveLaws }
+{}
+
+/// A packet or an output reads one record, its own part and the time.
+pub fn traffic()
+    ensures { TrafficLaws }
+{}
+
+/// A reply that doesn't move removes no record.
+pub fn removals()
+    ensures { RemovalLaws }
 {}
 
 /// An answer by the shown part asks no own part.

@@ -6,7 +6,7 @@ mod rows;
 
 pub use laws::{
     acceptances, equalities, first_policies, free_numbers, later, leaves, lookups, machines, moves,
-    one_state, own_parts, reads, shown_answers, steps, tests, updates,
+    one_state, own_parts, reads, removals, shown_answers, steps, tests, traffic, updates,
 };
 pub use rows::{
     batch_rows, change_rows, flow_rows, history_rows, index_rows, limit_rows, own_rows,
