@@ -26,6 +26,10 @@ pub mod FoldLemmas
 pub mod BesideLemmas
 pub mod ReadLemmas
 pub mod LeaveLemmas
+pub mod FormLemmas
+pub mod StateFormLemmas
+pub mod ToldLemmas
+pub mod NewLemmas
 pub mod TrafficLemmas
 pub mod RemovalLemmas
 pub mod KnownLemmas

@@ -21,6 +21,7 @@ pub mod StepLaws
 pub mod MoveLaws
 pub mod ReadLaws
 pub mod LeaveLaws
+pub mod NewLaws
 pub mod TrafficLaws
 pub mod RemovalLaws
 pub mod AcceptLaws

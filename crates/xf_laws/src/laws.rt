@@ -8,6 +8,7 @@ ghost use Rattle.xf_laws.specs.StepLaws.{OneStateLaws, ShownLaws, StepLaws};
 ghost use Rattle.xf_laws.specs.LookupLaws.{LookupLaws};
 ghost use Rattle.xf_laws.specs.MachineLaws.{MachineLaws};
 ghost use Rattle.xf_laws.specs.MoveLaws.{MoveLaws};
+ghost use Rattle.xf_laws.specs.NewLaws.{NewLaws};
 ghost use Rattle.xf_laws.specs.OwnLaws.{OwnLaws};
 ghost use Rattle.xf_laws.specs.ReadLaws.{ReadLaws};
 ghost use Rattle.xf_laws.specs.RemovalLaws.{RemovalLaws};
@@ -39,6 +40,11 @@ pub fn traffic()
 /// A reply that doesn't move removes no record.
 pub fn removals()
     ensures { RemovalLaws }
+{}
+
+/// What a call lists anew has the next number, is as a new record begins, and has its own part.
+pub fn listed_anew()
+    ensures { NewLaws }
 {}
 
 /// An answer by the shown part asks no own part.
