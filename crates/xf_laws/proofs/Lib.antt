@@ -30,6 +30,7 @@ pub mod FormLemmas
 pub mod StateFormLemmas
 pub mod ToldLemmas
 pub mod NewLemmas
+pub mod SpentLemmas
 pub mod TrafficLemmas
 pub mod RemovalLemmas
 pub mod KnownLemmas

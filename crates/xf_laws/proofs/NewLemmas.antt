@@ -33,17 +33,17 @@ pub listed-contained : (states : List Sa) (x : Sa) → Contains states x → is_
 listed-contained states x here = All-contains (λ (y : Sa). is_listed y.sid states ≡ true) states x (listed-all states) here
 
 -- and each policy
-numbered-all : (policies : List Policy) → All (λ p. is_numbered p.number policies ≡ true) policies
+pub numbered-all : (policies : List Policy) → All (λ p. is_numbered p.number policies ≡ true) policies
 numbered-all policies k d within =
     let p : Policy = get_or policies k d in
     list_any_at (λ (q : Policy). q.number == p.number) policies k d within (eq-eqb p.number p.number refl)
 
 -- each state was listed before under its id, or is new
-IsOldOrNew : Shown → Sa → Type 0
+unfoldable pub IsOldOrNew : Shown → Sa → Type 0
 IsOldOrNew s x = (is_listed x.sid s.states ≡ true) ⊎ IsNewState s x
 
 -- the states that a call leaves are so
-old-or-new : (s : Shown) (c : Call) (r : Reply) (states : List Sa) → AreStatesOf s c r states → All (IsOldOrNew s) states
+pub old-or-new : (s : Shown) (c : Call) (r : Reply) (states : List Sa) → AreStatesOf s c r states → All (IsOldOrNew s) states
 unfolding IsOldOrNew
 old-or-new s c r states h =
     subst (All (IsOldOrNew s)) (sym h.whole)

@@ -22,6 +22,7 @@ pub mod MoveLaws
 pub mod ReadLaws
 pub mod LeaveLaws
 pub mod NewLaws
+pub mod SpentLaws
 pub mod TrafficLaws
 pub mod RemovalLaws
 pub mod AcceptLaws

@@ -4,6 +4,7 @@ ghost use Rattle.xf_laws.specs.FirstPolicyLaws.{FirstPolicyLaws};
 ghost use Rattle.xf_laws.specs.FreeLaws.{FreeLaws};
 ghost use Rattle.xf_laws.specs.LaterLaws.{LaterLaws};
 ghost use Rattle.xf_laws.specs.LeaveLaws.{LeaveLaws};
+ghost use Rattle.xf_laws.specs.SpentLaws.{SpentLaws};
 ghost use Rattle.xf_laws.specs.StepLaws.{OneStateLaws, ShownLaws, StepLaws};
 ghost use Rattle.xf_laws.specs.LookupLaws.{LookupLaws};
 ghost use Rattle.xf_laws.specs.MachineLaws.{MachineLaws};
@@ -45,6 +46,11 @@ pub fn removals()
 /// What a call lists anew has the next number, is as a new record begins, and has its own part.
 pub fn listed_anew()
     ensures { NewLaws }
+{}
+
+/// A state id or a policy's number that was given and isn't listed is never listed again.
+pub fn spent()
+    ensures { SpentLaws }
 {}
 
 /// An answer by the shown part asks no own part.
