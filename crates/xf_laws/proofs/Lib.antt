@@ -31,6 +31,8 @@ pub mod StateFormLemmas
 pub mod ToldLemmas
 pub mod NewLemmas
 pub mod SpentLemmas
+pub mod ChangeLemmas
+pub mod IdLemmas
 pub mod TrafficLemmas
 pub mod RemovalLemmas
 pub mod KnownLemmas

@@ -23,6 +23,8 @@ pub mod ReadLaws
 pub mod LeaveLaws
 pub mod NewLaws
 pub mod SpentLaws
+pub mod ChangeLaws
+pub mod IdLaws
 pub mod TrafficLaws
 pub mod RemovalLaws
 pub mod AcceptLaws

@@ -1,7 +1,9 @@
 //! Laws of the machine.
 ghost use Rattle.xf_laws.specs.AcceptLaws.{AcceptLaws};
+ghost use Rattle.xf_laws.specs.ChangeLaws.{ChangeLaws};
 ghost use Rattle.xf_laws.specs.FirstPolicyLaws.{FirstPolicyLaws};
 ghost use Rattle.xf_laws.specs.FreeLaws.{FreeLaws};
+ghost use Rattle.xf_laws.specs.IdLaws.{IdLaws};
 ghost use Rattle.xf_laws.specs.LaterLaws.{LaterLaws};
 ghost use Rattle.xf_laws.specs.LeaveLaws.{LeaveLaws};
 ghost use Rattle.xf_laws.specs.SpentLaws.{SpentLaws};
@@ -49,7 +51,7 @@ pub fn listed_anew()
 {}
 
 /// A state id or a policy's number that was given and isn't listed is never listed again.
-pub fn spent()
+pub fn spent_numbers()
     ensures { SpentLaws }
 {}
 
@@ -106,6 +108,16 @@ pub fn later()
 /// The moves say what is shown after each call and after each legal history.
 pub fn moves()
     ensures { MoveLaws }
+{}
+
+/// A move leaves the time, the policies and each state's record where it isn't counted as a change of them.
+pub fn changes()
+    ensures { ChangeLaws }
+{}
+
+/// Equal change ids at two moments of a legal history mean that nothing that they count was changed between them.
+pub fn change_ids()
+    ensures { IdLaws }
 {}
 
 /// The latest match and the best state of a list are those that their names say.

@@ -1,5 +1,5 @@
 use Rattle.xf_laws.proofs.SpentLemmas.{sid-calls, number-calls, sid-receipts, number-receipts}
-use Rattle.xf_laws.proofs.laws.spent.Goals as goal
+use Rattle.xf_laws.proofs.laws.spent_numbers.Goals as goal
 
 pub returns : goal.returns
 returns c = record {
