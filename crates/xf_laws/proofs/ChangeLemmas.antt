@@ -1,6 +1,6 @@
 -- What a move leaves.
-use Rattle.std.proofs.Common.{arith, ℕ, ◌≡◌, ◌<◌, Bool, true, false, not, ◌&&◌, ◌||◌, ◌==◌, List, [], ◌∷◌, ◌++◌, get_or, map, filter, refl, ap, sym, ◌∙◌, subst, cond, Option, None, Some, find, All, Contains, inl, inr, eqb-true}
-use Rattle.std.proofs.lemmas.Bool.{true≢false, both_ways, or_parts, or_left, or_right, and_parts, not-false, not-true, cases_Bool}
+use Rattle.std.proofs.Common.{arith, ℕ, ◌≡◌, ◌<◌, Bool, true, false, not, ◌&&◌, ◌||◌, ◌==◌, List, [], ◌∷◌, ◌++◌, get_or, map, filter, refl, ap, sym, ◌∙◌, subst, cond, Some, find, All, Contains, inl, inr, eqb-true}
+use Rattle.std.proofs.lemmas.Bool.{true≢false, both_ways, or_parts, and_parts, not-false, not-true, cases_Bool}
 use Rattle.std.proofs.lemmas.List.Elements.{All-nil, All-cons, All-head, All-tail, All-append, All-filter, All-map, All-weaker, All-contains, All-contains_itself, Contains-get_or, Contains-append_right, filter-append, filter_passes}
 use Rattle.std.proofs.lemmas.List.Folds.{list_any-append}
 use Rattle.std.specs.List.{list_any}
@@ -16,7 +16,7 @@ use Rattle.xf_types.specs.StateList.{has_sid}
 use Rattle.xf_types.specs.Steps.{step, rule_of, by_rule}
 use Rattle.xf_types.specs.Moves.{after_move}
 use Rattle.xf_types.specs.ChangeIds.{same_flag, same_policies, sets_thresholds, changes_policies, refreshes, is_listed_as, states_changed}
-use Rattle.xf_types.specs.IsMachine.{IsMachine, IsPolicyList, IsStateList}
+use Rattle.xf_types.specs.IsMachine.{IsPolicyList, IsStateList}
 use Rattle.xf_laws.specs.StepLaws.{is_tick}
 use Rattle.xf_laws.specs.LeaveLaws.{is_listed}
 use Rattle.xf_laws.specs.NewLaws.{IsNewState}

@@ -1,5 +1,5 @@
 -- What each answer by the shown part may do to the records that are listed: one of six forms.
-use Rattle.std.proofs.Common.{arith, ℕ, ◌≡◌, Bool, true, false, not, ◌&&◌, ◌==◌, List, length, refl, cond, Option, None, Some, find, All, Contains, insert, inl, inr, ◌⊎◌}
+use Rattle.std.proofs.Common.{ℕ, ◌≡◌, Bool, true, false, not, ◌&&◌, ◌==◌, List, length, refl, cond, Option, None, Some, find, All, Contains, inl, inr, ◌⊎◌}
 use Rattle.std.proofs.lemmas.List.Elements.{All-weaker, All-filter, All-contains_itself}
 use Rattle.std.specs.List.{position_or_len}
 use Rattle.std.specs.Prelude.{nat_le, nat_lt, unwrap_or}

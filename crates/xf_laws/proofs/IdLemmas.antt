@@ -7,9 +7,8 @@ use Rattle.xf_types.specs.declared.policy.Policy.{Policy}
 use Rattle.xf_types.specs.declared.state.Sa.{Sa}
 use Rattle.xf_types.specs.declared.call.Receipt.{Receipt}
 use Rattle.xf_types.specs.Machine.{Machine, Shown}
-use Rattle.xf_types.specs.Steps.{step}
 use Rattle.xf_types.specs.Moves.{is_moving, after_move, after_moves, moves_of}
-use Rattle.xf_types.specs.History.{Moment, MayReply, IsLegalFrom, IsLegalHistory, beginning, is_exception, machine_next, next_moment, moment_of, machine_of}
+use Rattle.xf_types.specs.History.{Moment, IsLegalFrom, IsLegalHistory, beginning, machine_next, next_moment, moment_of, machine_of}
 use Rattle.xf_types.specs.ChangeIds.{changes_policies, states_changed, count_moves, policy_id, bucket_id}
 use Rattle.xf_types.specs.IsMachine.{IsMachine}
 use Rattle.xf_laws.specs.ChangeLaws.{IsReceiptOf, HaveSamePolicies}

@@ -24,6 +24,7 @@ pub mod EventLemmas
 pub mod MoveLemmas
 pub mod FoldLemmas
 pub mod BesideLemmas
+pub mod TrafficLemmas
 pub mod ReadLemmas
 pub mod LeaveLemmas
 pub mod FormLemmas
@@ -33,7 +34,6 @@ pub mod NewLemmas
 pub mod SpentLemmas
 pub mod ChangeLemmas
 pub mod IdLemmas
-pub mod TrafficLemmas
 pub mod RemovalLemmas
 pub mod KnownLemmas
 pub mod AcceptLemmas

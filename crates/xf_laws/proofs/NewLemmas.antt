@@ -1,9 +1,8 @@
 -- What a call lists anew.
-use Rattle.std.proofs.Common.{ℕ, ◌≡◌, Bool, true, false, not, ◌==◌, List, ◌++◌, get_or, map, refl, ap, sym, ◌∙◌, subst, All, Contains, inl, inr, ◌⊎◌, eqb}
+use Rattle.std.proofs.Common.{ℕ, ◌≡◌, true, false, not, ◌==◌, List, get_or, map, refl, ap, sym, ◌∙◌, subst, All, Contains, inl, inr, ◌⊎◌}
 use Rattle.std.proofs.lemmas.Bool.{both_ways, eq-eqb}
 use Rattle.std.proofs.lemmas.List.Elements.{All-append, All-filter, All-map, All-weaker, All-contains}
 use Rattle.std.proofs.lemmas.List.Folds.{list_any_at}
-use Rattle.std.specs.List.{AllZip}
 use Rattle.xf_types.specs.declared.policy.Policy.{Policy}
 use Rattle.xf_types.specs.declared.state.Sa.{Sa}
 use Rattle.xf_types.specs.declared.call.Call.{Call}
@@ -19,7 +18,7 @@ use Rattle.xf_laws.specs.NewLaws.{is_numbered, IsNewState, IsNewPolicy}
 use Rattle.xf_laws.proofs.BesideLemmas.{zip-weaker, own_of-listed}
 use Rattle.xf_laws.proofs.TrafficKeepLemmas.{only-one}
 use Rattle.xf_laws.proofs.MachineLemmas.{step-kept}
-use Rattle.xf_laws.proofs.FormLemmas.{IsPolicyOf, IsListedPolicy}
+use Rattle.xf_laws.proofs.FormLemmas.{IsPolicyOf}
 use Rattle.xf_laws.proofs.StateFormLemmas.{AreStatesOf}
 use Rattle.xf_laws.proofs.ToldLemmas.{Begins, told}
 

@@ -1,5 +1,5 @@
 -- What is gone stays gone.
-use Rattle.std.proofs.Common.{arith, ℕ, ◌≡◌, ◌<◌, Bool, true, false, ◌==◌, List, [], ◌∷◌, get_or, ap, sym, ◌∙◌, cond, All, inl, inr}
+use Rattle.std.proofs.Common.{arith, ℕ, ◌≡◌, true, false, ◌==◌, List, [], ◌∷◌, ap, sym, ◌∙◌, cond, inl, inr}
 use Rattle.std.proofs.lemmas.Bool.{both_ways, ne_eqb}
 use Rattle.std.proofs.lemmas.List.Elements.{All-weaker, All-contains}
 use Rattle.std.proofs.lemmas.List.Folds.{list_any_none}

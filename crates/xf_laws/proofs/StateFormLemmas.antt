@@ -1,34 +1,22 @@
 -- What a call may do to the states that are listed: some leave, the others are changed where they stand, and one is added.
-use Rattle.std.proofs.Common.{arith, ℕ, ◌≡◌, ◌<◌, max, Bool, true, false, not, ◌==◌, List, [], ◌∷◌, ◌++◌, length, map, refl, ap, sym, ◌∙◌, subst, cond, Option, None, Some, find, All, AllPairs, Contains, inl, inr, ◌⊎◌}
+use Rattle.std.proofs.Common.{arith, ℕ, ◌≡◌, ◌<◌, Bool, true, false, not, ◌==◌, List, [], ◌∷◌, ◌++◌, map, refl, ap, sym, ◌∙◌, subst, cond, All}
 use Rattle.std.proofs.lemmas.Bool.{both_ways, ne_eqb, eq-eqb}
-use Rattle.std.proofs.lemmas.List.Elements.{All-nil, All-cons, All-filter, All-map, All-weaker, All-contains_itself}
-use Rattle.std.specs.List.{AllZip, list_any}
-use Rattle.xf_types.specs.declared.policy.Policy.{Policy}
+use Rattle.std.proofs.lemmas.List.Elements.{All-nil, All-cons, All-filter, All-map, All-weaker}
 use Rattle.xf_types.specs.declared.state.Sa.{Sa}
 use Rattle.xf_types.specs.declared.state.SaSpec.{SaSpec}
 use Rattle.xf_types.specs.declared.call.Call.{Call}
 use Rattle.xf_types.specs.declared.call.Call.TheVariants as call
 use Rattle.xf_types.specs.declared.call.Reply.{Reply}
 use Rattle.xf_types.specs.declared.call.Reply.TheVariants as reply
-use Rattle.xf_types.specs.Machine.{Machine, Shown, Own, Outcome, outcome}
-use Rattle.xf_types.specs.Same.{meets_one, same_ptype, same_proto}
-use Rattle.xf_types.specs.PolicyList.{policy_meets, without}
-use Rattle.xf_types.specs.StateList.{latest_match, has_sid, changed, state_meets, is_none}
-use Rattle.xf_types.specs.OwnParts.{new_own, own_without, own_in}
-use Rattle.xf_types.specs.Changes.{Answer, Change, NewState, Stays, InPlace, LeaveThen, applied, machine_after, answer}
-use Rattle.xf_types.specs.ChangeIds.{sets_thresholds, refreshes}
-use Rattle.xf_types.specs.PolicyRules as p
+use Rattle.xf_types.specs.Machine.{Shown}
+use Rattle.xf_types.specs.PolicyList.{without}
+use Rattle.xf_types.specs.StateList.{has_sid, is_none}
+use Rattle.xf_types.specs.Changes.{NewState}
+use Rattle.xf_types.specs.ChangeIds.{refreshes}
 use Rattle.xf_types.specs.StateRules as st
-use Rattle.xf_types.specs.FlowRules as f
-use Rattle.xf_types.specs.TrafficRules.{Treated, Fate, Same, Ends, Becomes, packet_at, output_at, id_of_packet}
-use Rattle.xf_types.specs.OneState.{dying_if, put_back, on_found}
-use Rattle.xf_types.specs.TickRules.{soft_if, policy_ends, policy_warns, policy_later, at_time, events_at}
-use Rattle.xf_types.specs.Moves.{ends_state, warns_state}
-use Rattle.xf_types.specs.Steps.{rule_of, by_rule}
-use Rattle.xf_types.specs.IsMachine.{IsMachine, IsOwnOf, AreOwn}
+use Rattle.xf_types.specs.OneState.{dying_if}
 use Rattle.xf_laws.specs.NewLaws.{IsNewState}
 use Rattle.xf_laws.specs.OwnLaws.{added_record}
-use Rattle.xf_laws.specs.StepLaws.{is_tick}
 use Rattle.xf_laws.proofs.LaterLemmas.{none-leaves}
 
 -- a change of a state's record leaves what a bucket rests on, and is none where the state isn't refreshed and stays as dying

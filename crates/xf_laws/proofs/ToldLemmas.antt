@@ -1,11 +1,10 @@
 -- What each call does to the records that are listed: to the policies, the thresholds, the time, the states and their own parts.
-use Rattle.std.proofs.Common.{arith, ℕ, ◌≡◌, ◌<◌, max, Bool, true, false, not, ◌==◌, List, [], ◌∷◌, ◌++◌, length, map, refl, ap, sym, ◌∙◌, subst, cond, Option, None, Some, find, All, AllPairs, Contains, inl, inr, ◌⊎◌}
-use Rattle.std.proofs.lemmas.Bool.{both_ways, ne_eqb, eq-eqb}
-use Rattle.std.proofs.lemmas.List.Elements.{All-nil, All-cons, All-filter, All-map, All-weaker, All-contains_itself}
+use Rattle.std.proofs.Common.{ℕ, ◌≡◌, max, Bool, true, false, not, List, [], ◌∷◌, ◌++◌, map, refl, ap, sym, ◌∙◌, subst, cond, Option, None, Some, find, All, Contains, inl}
+use Rattle.std.proofs.lemmas.Bool.{both_ways}
+use Rattle.std.proofs.lemmas.List.Elements.{All-nil, All-filter, All-map, All-weaker, All-contains_itself}
 use Rattle.std.specs.List.{AllZip, list_any}
 use Rattle.xf_types.specs.declared.policy.Policy.{Policy}
 use Rattle.xf_types.specs.declared.state.Sa.{Sa}
-use Rattle.xf_types.specs.declared.state.SaSpec.{SaSpec}
 use Rattle.xf_types.specs.declared.call.Call.{Call}
 use Rattle.xf_types.specs.declared.call.Call.TheVariants as call
 use Rattle.xf_types.specs.declared.call.Reply.{Reply}
@@ -13,10 +12,10 @@ use Rattle.xf_types.specs.declared.call.Reply.TheVariants as reply
 use Rattle.xf_types.specs.Machine.{Machine, Shown, Own, Outcome, outcome}
 use Rattle.xf_types.specs.Same.{meets_one, same_ptype, same_proto}
 use Rattle.xf_types.specs.PolicyList.{policy_meets, without}
-use Rattle.xf_types.specs.StateList.{latest_match, has_sid, changed, state_meets, is_none}
+use Rattle.xf_types.specs.StateList.{latest_match, has_sid, state_meets, is_none}
 use Rattle.xf_types.specs.OwnParts.{new_own, own_without, own_in}
-use Rattle.xf_types.specs.Changes.{Answer, Change, NewState, Stays, InPlace, LeaveThen, applied, machine_after, answer}
-use Rattle.xf_types.specs.ChangeIds.{sets_thresholds, refreshes}
+use Rattle.xf_types.specs.Changes.{Answer, Change, NewState, InPlace, applied, machine_after, answer}
+use Rattle.xf_types.specs.ChangeIds.{sets_thresholds}
 use Rattle.xf_types.specs.PolicyRules as p
 use Rattle.xf_types.specs.StateRules as st
 use Rattle.xf_types.specs.FlowRules as f
@@ -36,7 +35,7 @@ use Rattle.xf_laws.proofs.MachineLemmas.{step-kept}
 use Rattle.xf_laws.proofs.MoveLemmas.{states-moved}
 use Rattle.xf_laws.proofs.FormLemmas as form
 use Rattle.xf_laws.proofs.FormLemmas.{Form, Still, Listed, Set, Refreshed, Left, Added, IsPolicyOf, all-listed}
-use Rattle.xf_laws.proofs.StateFormLemmas.{AreStatesOf, IsChange, no-more, none-changed, none-new, changed-states, same-states, left-states, added-states, one-dying, dying-change, refresh-change}
+use Rattle.xf_laws.proofs.StateFormLemmas.{AreStatesOf, no-more, none-changed, none-new, changed-states, same-states, left-states, added-states, one-dying, dying-change, refresh-change}
 
 -- a state with the next state id has what it begins with
 abbrev pub Begins : ℕ → Sa → Own → Type 0

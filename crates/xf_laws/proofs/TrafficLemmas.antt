@@ -1,8 +1,6 @@
 -- A packet or an output reads the record and the own part of one state, and the time.
-use Rattle.std.proofs.Common.{arith, ◌≡◌, ℕ, Bool, true, false, not, ◌||◌, List, [], ◌∷◌, get_or, refl, ap, sym, ◌∙◌, subst, cond, Option, None, Some, find, All, AllPairs, Contains, eqb-true, eqb}
-use Rattle.std.proofs.lemmas.Bool.{true≢false}
+use Rattle.std.proofs.Common.{arith, ◌≡◌, ℕ, Bool, true, false, not, List, [], ◌∷◌, refl, ap, sym, ◌∙◌, cond, Option, None, Some, find, All, Contains, eqb-true, eqb}
 use Rattle.std.proofs.lemmas.List.Elements.{All-head, All-tail}
-use Rattle.std.proofs.lemmas.List.Folds.{list_any_at}
 use Rattle.std.specs.Option.{option_map}
 use Rattle.xf_types.specs.declared.state.Sa.{Sa}
 use Rattle.xf_types.specs.declared.call.Call.{Call}
@@ -12,18 +10,33 @@ use Rattle.xf_types.specs.declared.call.Reply.TheVariants as reply
 use Rattle.xf_types.specs.Machine.{Machine, Own}
 use Rattle.xf_types.specs.PolicyList.{without}
 use Rattle.xf_types.specs.StateList.{latest_match, last_of, has_sid, has_id, changed}
-use Rattle.xf_types.specs.OwnParts.{new_own, own_of, own_put, own_in}
+use Rattle.xf_types.specs.OwnParts.{new_own, own_of, own_put, own_without, own_in}
 use Rattle.xf_types.specs.TrafficRules.{Treated, Fate, Same, Ends, Becomes, packet_at, output_at, id_of_packet}
 use Rattle.xf_types.specs.OneState.{dying_if, put_back, on_found}
-use Rattle.xf_types.specs.Steps.{Rule, ByShown, ByState, ByTime, rule_of, by_rule}
-use Rattle.xf_types.specs.Moves.{state_found}
+use Rattle.xf_types.specs.Steps.{rule_of, by_rule}
 use Rattle.xf_types.specs.IsMachine.{IsMachine, AreOwn}
-use Rattle.xf_laws.specs.LeaveLaws.{is_listed}
 use Rattle.xf_laws.specs.TrafficLaws.{TellOfState}
 use Rattle.xf_laws.proofs.LocalLemmas.{own_of-changed}
-use Rattle.xf_laws.proofs.ReadLemmas.{own_of-gone}
 use Rattle.xf_laws.proofs.StateKeepLemmas.{dying-sid}
 use Rattle.xf_laws.proofs.TrafficKeepLemmas.{found-contained, last-contained, only-one, contained-behind}
+
+-- beside no own parts a state has none
+own_of-none : (sid : ℕ) (states : List Sa) (d : Own) → own_of sid states [] d ≡ d
+own_of-none sid [] d = refl
+own_of-none sid (x ∷ states) d = refl
+
+-- a state that left has none
+own_of-gone : (sid : ℕ) (states : List Sa) (own : List Own) (d : Own)
+    → own_of sid (without (has_sid sid) states) (own_without (has_sid sid) states own) d ≡ d
+own_of-gone sid [] own d = refl
+own_of-gone sid (x ∷ states) [] d = own_of-none sid (without (has_sid sid) (x ∷ states)) d
+own_of-gone sid (x ∷ states) (o ∷ own) d =
+    let left = without (has_sid sid) states in
+    let kept = own_without (has_sid sid) states own in
+    elim (has_sid sid x) as (λ b. has_sid sid x ≡ b → own_of sid (cond (not b) (x ∷ left) left) (cond b kept (o ∷ kept)) d ≡ d) [
+      | true ↦ λ is. own_of-gone sid states own d
+      | false ↦ λ is. ap (λ (b : Bool). cond b o (own_of sid left kept d)) is ∙ own_of-gone sid states own d
+    ] refl
 
 -- the own part that takes the place of that of a listed state is found there
 put-found : (x : Sa) (new : Own) (states : List Sa) (own : List Own) (d : Own) → Contains states x → AreOwn states own

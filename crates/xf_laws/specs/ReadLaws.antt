@@ -2,7 +2,6 @@
 -- uses alone.
 use Rattle.std.specs.Prelude.{◌≡◌, List, All, IfSome}
 use Rattle.std.specs.List.{AllZip}
-use Rattle.xf_types.specs.declared.state.Sa.{Sa}
 use Rattle.xf_types.specs.declared.call.Call.{Call}
 use Rattle.xf_types.specs.declared.call.Call.TheVariants as call
 use Rattle.xf_types.specs.Machine.{Shown, Own}

@@ -6,8 +6,6 @@ ghost use Rattle.xf_laws.specs.FreeLaws.{FreeLaws};
 ghost use Rattle.xf_laws.specs.IdLaws.{IdLaws};
 ghost use Rattle.xf_laws.specs.LaterLaws.{LaterLaws};
 ghost use Rattle.xf_laws.specs.LeaveLaws.{LeaveLaws};
-ghost use Rattle.xf_laws.specs.SpentLaws.{SpentLaws};
-ghost use Rattle.xf_laws.specs.StepLaws.{OneStateLaws, ShownLaws, StepLaws};
 ghost use Rattle.xf_laws.specs.LookupLaws.{LookupLaws};
 ghost use Rattle.xf_laws.specs.MachineLaws.{MachineLaws};
 ghost use Rattle.xf_laws.specs.MoveLaws.{MoveLaws};
@@ -15,11 +13,13 @@ ghost use Rattle.xf_laws.specs.NewLaws.{NewLaws};
 ghost use Rattle.xf_laws.specs.OwnLaws.{OwnLaws};
 ghost use Rattle.xf_laws.specs.ReadLaws.{ReadLaws};
 ghost use Rattle.xf_laws.specs.RemovalLaws.{RemovalLaws};
+ghost use Rattle.xf_laws.specs.SpentLaws.{SpentLaws};
+ghost use Rattle.xf_laws.specs.StepLaws.{OneStateLaws, ShownLaws, StepLaws};
 ghost use Rattle.xf_laws.specs.TestLaws.{EqualityLaws, TestLaws};
 ghost use Rattle.xf_laws.specs.TrafficLaws.{TrafficLaws};
 ghost use Rattle.xf_laws.specs.UpdateLaws.{UpdateLaws};
 
-/// A packet or an output reads the shown part and one own part, and changes no other.
+/// A rule of one state reads the shown part and one own part, and where it doesn't end the state it changes no other own part.
 pub fn one_state()
     ensures { OneStateLaws }
 {}
@@ -80,7 +80,7 @@ pub fn updates()
     ensures { UpdateLaws }
 {}
 
-/// What holds of every machine holds of the empty one, and each step keeps it.
+/// What holds of every machine holds of the empty one, with capacities in their bounds, and each step keeps it.
 pub fn machines()
     ensures { MachineLaws }
 {}
