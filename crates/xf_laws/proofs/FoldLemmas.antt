@@ -69,7 +69,7 @@ ruled t r (reply.Full live zero) h = by_machine t r (reply.Full live 0) refl h
 ruled t r (reply.Full live (suc waiting)) h = inl (record { outside = lt-ltb 0 (suc waiting) (omega arith); still = refl })
 
 -- what is shown after one receipt
-one-folded : (t : Moment) (r : Receipt) → IsMachine t.machine → Outside r.reply ⊎ Inside t r r.reply
+pub one-folded : (t : Moment) (r : Receipt) → IsMachine t.machine → Outside r.reply ⊎ Inside t r r.reply
     → cond (is_moving r.reply) (after_move t.machine.shown r.call r.reply) t.machine.shown ≡ (machine_next t.machine r).shown
 one-folded t r h (inl x) =
     cond-false (is_moving r.reply) (after_move t.machine.shown r.call r.reply) t.machine.shown x.still
@@ -94,7 +94,7 @@ one-more s r moves true = refl
 one-more s r moves false = refl
 
 -- from any moment on
-folded-from : (t : Moment) (history : List Receipt) → IsMachine t.machine → IsLegalFrom t history
+pub folded-from : (t : Moment) (history : List Receipt) → IsMachine t.machine → IsLegalFrom t history
     → after_moves t.machine.shown (moves_of history) ≡ (moment_of t history).machine.shown
 folded-from t [] h legal = refl
 folded-from t (r ∷ rs) h legal =

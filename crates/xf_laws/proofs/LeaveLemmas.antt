@@ -14,11 +14,10 @@ use Rattle.xf_types.specs.StateList.{latest_match, has_sid, has_id}
 use Rattle.xf_types.specs.OwnParts.{new_own, own_of, own_in}
 use Rattle.xf_types.specs.TrafficRules.{Treated, Fate, Same, Ends, Becomes, packet_at, output_at, id_of_packet}
 use Rattle.xf_types.specs.OneState.{on_found}
-use Rattle.xf_types.specs.Steps.{step}
-use Rattle.xf_types.specs.Moves.{is_moving}
+use Rattle.xf_types.specs.Steps.{step, rule_of}
+use Rattle.xf_types.specs.Moves.{is_moving, state_found}
 use Rattle.xf_types.specs.History.{Moment, MayReply, is_exception, machine_next}
 use Rattle.xf_types.specs.IsMachine.{IsMachine}
-use Rattle.xf_laws.specs.ReadLaws.{state_for}
 use Rattle.xf_laws.specs.LeaveLaws.{is_listed, IsAnother, IsLeftBut}
 use Rattle.xf_laws.proofs.Lasting.{Steady, HoldsBy}
 use Rattle.xf_laws.proofs.BesideLemmas.{zip-weaker, IsFound, zip-found, own-beside, own_of-listed, own_of-missing, listed-given}
@@ -70,7 +69,7 @@ found-kept m missing treat h (Some x) among =
     (any-fate m x fate)
 
 -- after a packet or an output
-traffic-kept : (m : Machine) (c : Call) → IsMachine m → KeepsTraffic (AreKept m (state_for m.shown c)) m c
+traffic-kept : (m : Machine) (c : Call) → IsMachine m → KeepsTraffic (AreKept m (state_found (rule_of m.shown c))) m c
 traffic-kept m (call.Packet packet) h =
     found-kept m reply.NoState (packet_at packet) h (latest_match m.shown.states (id_of_packet packet))
     (last-contained (has_id (id_of_packet packet)) m.shown.states)
@@ -80,19 +79,19 @@ traffic-kept m _ h = tt
 
 -- and so after each call
 step-others : (m : Machine) (c : Call) → IsMachine m
-    → AllZip (AreKept m (state_for m.shown c)) (step m c).machine.shown.states (step m c).machine.own
+    → AllZip (AreKept m (state_found (rule_of m.shown c))) (step m c).machine.shown.states (step m c).machine.own
 step-others m c h =
-    let one = state_for m.shown c in
+    let one = state_found (rule_of m.shown c) in
     (step-steady (AreKept m one) m c (traffic-kept m c h)
     (record { shown = h.shown; own = (kept-now m one h).own; steady = kept-steady m one })).own
 
 -- each other state that was listed and still is keeps its own part
-pub call-moved : (m : Machine) (c : Call) (sid : ℕ) (none : Own) → IsMachine m → IsAnother (state_for m.shown c) sid
+pub call-moved : (m : Machine) (c : Call) (sid : ℕ) (none : Own) → IsMachine m → IsAnother (state_found (rule_of m.shown c)) sid
     → is_listed sid m.shown.states ≡ true → is_listed sid (step m c).machine.shown.states ≡ true
     → own_of sid (step m c).machine.shown.states (step m c).machine.own none ≡ own_of sid m.shown.states m.own none
 call-moved m c sid none h another before after =
     let next = (step m c).machine in
-    let one = state_for m.shown c in
+    let one = state_found (rule_of m.shown c) in
     let given : sid < m.shown.next_sid = listed-given sid m.shown.next_sid m.shown.states h.shown.states.sids_given before in
     let v : Own = own_of sid m.shown.states m.own none in
     own_of-listed sid v next.shown.states next.own none
@@ -103,7 +102,7 @@ call-moved m c sid none h another before after =
 
 -- a reply that doesn't move leaves each other own part
 still-own : (m : Machine) (c : Call) (sid : ℕ) (none : Own) → IsMachine m → is_moving (step m c).reply ≡ false
-    → IsAnother (state_for m.shown c) sid
+    → IsAnother (state_found (rule_of m.shown c)) sid
     → own_of sid (step m c).machine.shown.states (step m c).machine.own none ≡ own_of sid m.shown.states m.own none
 still-own m c sid none h still another =
     let next = (step m c).machine in
@@ -118,7 +117,7 @@ still-own m c sid none h still another =
 
 -- and what is shown
 pub call-still : (m : Machine) (c : Call) → IsMachine m → is_moving (step m c).reply ≡ false
-    → IsLeftBut (state_for m.shown c) m (step m c).machine
+    → IsLeftBut (state_found (rule_of m.shown c)) m (step m c).machine
 call-still m c h still =
     record { shown = step-still m c still; own = λ sid none another. still-own m c sid none h still another }
 
@@ -139,10 +138,10 @@ own-whole m c None h still e kept =
     (own-beside m h)
 
 -- and so does the machine
-pub call-whole : (m : Machine) (c : Call) → IsMachine m → is_moving (step m c).reply ≡ false → state_for m.shown c ≡ None
+pub call-whole : (m : Machine) (c : Call) → IsMachine m → is_moving (step m c).reply ≡ false → state_found (rule_of m.shown c) ≡ None
     → (step m c).machine ≡ m
 call-whole m c h still none =
-    let own = own-whole m c (state_for m.shown c) h still none (step-others m c h) in
+    let own = own-whole m c (state_found (rule_of m.shown c)) h still none (step-others m c h) in
     let shown = step-still m c still in
     λ i. record { shown = shown i; own = own i }
 
@@ -152,10 +151,10 @@ left-same one m = record { shown = refl; own = λ sid none another. refl }
 
 -- each receipt that doesn't move
 pub receipt-still : (t : Moment) (r : Receipt) → IsMachine t.machine → MayReply t r r.reply → is_moving r.reply ≡ false
-    → IsLeftBut (state_for t.machine.shown r.call) t.machine (machine_next t.machine r)
+    → IsLeftBut (state_found (rule_of t.machine.shown r.call)) t.machine (machine_next t.machine r)
 receipt-still t r h may still =
     let m = t.machine in
-    let one = state_for m.shown r.call in
+    let one = state_found (rule_of m.shown r.call) in
     elim (ruled t r r.reply may) [
       | inl x ↦
           subst (IsLeftBut one m) (sym (cond-true (is_exception r.reply) m (step m r.call).machine x.outside)) (left-same one m)

@@ -24,8 +24,17 @@ pub mod EventLemmas
 pub mod MoveLemmas
 pub mod FoldLemmas
 pub mod BesideLemmas
+pub mod TrafficLemmas
 pub mod ReadLemmas
 pub mod LeaveLemmas
+pub mod FormLemmas
+pub mod StateFormLemmas
+pub mod ToldLemmas
+pub mod NewLemmas
+pub mod SpentLemmas
+pub mod ChangeLemmas
+pub mod IdLemmas
+pub mod RemovalLemmas
 pub mod KnownLemmas
 pub mod AcceptLemmas
 pub mod UpdateLemmas

@@ -48,7 +48,7 @@ zip-states (x ∷ states) [] h = absurd h
 zip-states (x ∷ states) (o ∷ own) h = ap (λ xs. x ∷ xs) (zip-states states own h.1)
 
 -- the states after the events
-states-moved : (m : Machine) (time : ℕ) → IsMachine m
+pub states-moved : (m : Machine) (time : ℕ) → IsMachine m
     → map (state_later time) (staying m time)
     ≡ map (λ x. dying_if (list_any (warns_state x.sid) (events_at m time)) x)
     (without (λ x. list_any (ends_state x.sid) (events_at m time)) m.shown.states)

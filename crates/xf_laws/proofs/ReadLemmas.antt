@@ -1,5 +1,5 @@
 -- What a call reads of the own parts.
-use Rattle.std.proofs.Common.{◌≡◌, ℕ, max, Bool, true, false, not, List, [], ◌∷◌, ◌++◌, map, refl, ap, sym, ◌∙◌, cond, Option, None, Some, find, All, zip}
+use Rattle.std.proofs.Common.{◌≡◌, ℕ, max, true, false, not, List, [], ◌∷◌, ◌++◌, map, refl, ap, sym, ◌∙◌, cond, Option, None, Some, find, All, zip}
 use Rattle.std.proofs.lemmas.List.Elements.{All-head, All-tail}
 use Rattle.std.specs.List.{AllZip, filter_map, cons_option}
 use Rattle.std.specs.Prelude.{IfSome}
@@ -14,18 +14,20 @@ use Rattle.xf_types.specs.PolicyList.{without}
 use Rattle.xf_types.specs.PolicyRules as p
 use Rattle.xf_types.specs.StateRules as st
 use Rattle.xf_types.specs.FlowRules as f
-use Rattle.xf_types.specs.TrafficRules.{Treated, Fate, Same, Ends, Becomes, packet_at, output_at, id_of_packet}
+use Rattle.xf_types.specs.TrafficRules.{Treated, packet_at, output_at, id_of_packet}
 use Rattle.xf_types.specs.StateList.{latest_match, has_sid}
-use Rattle.xf_types.specs.OwnParts.{new_own, own_of, own_put, own_without, own_in}
+use Rattle.xf_types.specs.OwnParts.{own_in}
 use Rattle.xf_types.specs.Changes.{Answer, applied}
-use Rattle.xf_types.specs.OneState.{on_found, put_back}
+use Rattle.xf_types.specs.OneState.{on_found}
 use Rattle.xf_types.specs.TickRules.{policy_ends, policy_event, policy_later, state_ends, state_event, state_later, tick}
 use Rattle.xf_types.specs.Steps.{rule_of, by_rule}
-use Rattle.xf_types.specs.IsMachine.{IsMachine, AreOwn}
+use Rattle.xf_types.specs.Moves.{state_found}
+use Rattle.xf_types.specs.IsMachine.{IsMachine}
 use Rattle.xf_laws.specs.StepLaws.{beside}
-use Rattle.xf_laws.specs.ReadLaws.{state_for, AreUsedAlike, TellTheSame}
-use Rattle.xf_laws.proofs.LocalLemmas.{applied-shown, local_reply, local_shown, own_of-changed}
+use Rattle.xf_laws.specs.ReadLaws.{AreUsedAlike, TellTheSame}
+use Rattle.xf_laws.proofs.LocalLemmas.{applied-shown, local_reply, local_shown}
 use Rattle.xf_laws.proofs.BesideLemmas.{own-beside}
+use Rattle.xf_laws.proofs.TrafficLemmas.{traffic-own}
 
 -- two outcomes have the same reply and show the same
 pub record Alike (x y : Outcome) : Type 0 where
@@ -126,63 +128,21 @@ call-alike s a b (call.Packet packet) h =
 call-alike s a b (call.Output sid len) h = by_state s a b reply.Stale (output_at len) (find (has_sid sid) s.states) h
 call-alike s a b (call.Tick given) h = by_time s a b given h
 
--- beside no own parts a state has none
-own_of-none : (sid : ℕ) (states : List Sa) (d : Own) → own_of sid states [] d ≡ d
-own_of-none sid [] d = refl
-own_of-none sid (x ∷ states) d = refl
-
--- a state that left has none
-own_of-gone : (sid : ℕ) (states : List Sa) (own : List Own) (d : Own)
-    → own_of sid (without (has_sid sid) states) (own_without (has_sid sid) states own) d ≡ d
-own_of-gone sid [] own d = refl
-own_of-gone sid (x ∷ states) [] d = own_of-none sid (without (has_sid sid) (x ∷ states)) d
-own_of-gone sid (x ∷ states) (o ∷ own) d =
-    let left = without (has_sid sid) states in
-    let kept = own_without (has_sid sid) states own in
-    elim (has_sid sid x) as (λ b. has_sid sid x ≡ b → own_of sid (cond (not b) (x ∷ left) left) (cond b kept (o ∷ kept)) d ≡ d) [
-      | true ↦ λ is. own_of-gone sid states own d
-      | false ↦ λ is. ap (λ (b : Bool). cond b o (own_of sid left kept d)) is ∙ own_of-gone sid states own d
-    ] refl
-
--- one own part put at the place of the same state in two lists
-put-alike : (sid : ℕ) (new : Own) (states : List Sa) (a b : List Own) (d : Own) → AreOwn states a → AreOwn states b
-    → own_of sid states (own_put sid new states a) d ≡ own_of sid states (own_put sid new states b) d
-put-alike sid new [] a b d h k = refl
-put-alike sid new (x ∷ states) [] b d h k = absurd h
-put-alike sid new (x ∷ states) (o ∷ a) [] d h k = absurd k
-put-alike sid new (x ∷ states) (o ∷ a) (q ∷ b) d h k =
-    elim (has_sid sid x)
-    as (λ t. cond t (cond t new o) (own_of sid states (own_put sid new states a) d)
-    ≡ cond t (cond t new q) (own_of sid states (own_put sid new states b) d))
-    [ true ↦ refl | false ↦ put-alike sid new states a b d h.1 k.1 ]
-
--- the same fate leaves the state the same own part
-fate-alike : (s : Shown) (a b : List Own) (x : Sa) (fate : Fate) → AreOwn s.states a → AreOwn s.states b
-    → own_in (beside s a) x ≡ own_in (beside s b) x → own_in (put_back (beside s a) x fate) x ≡ own_in (put_back (beside s b) x fate) x
-fate-alike s a b x Same h k e = e
-fate-alike s a b x Ends h k e =
-    own_of-gone x.sid s.states a (new_own x.spec) ∙ sym (own_of-gone x.sid s.states b (new_own x.spec))
-fate-alike s a b x (Becomes soft own) h k e =
-    own_of-changed x.sid x.sid soft s.states (own_put x.sid own s.states a) (new_own x.spec)
-    ∙ put-alike x.sid own s.states a b (new_own x.spec) h k
-    ∙ sym (own_of-changed x.sid x.sid soft s.states (own_put x.sid own s.states b) (new_own x.spec))
-
--- where it was found
-found-alike : (s : Shown) (a b : List Own) (missing : Reply) (treat : ℕ → Sa → Own → Treated) (o : Option Sa)
-    → AreOwn s.states a → AreOwn s.states b → IfSome o (λ x. own_in (beside s a) x ≡ own_in (beside s b) x)
-    → IfSome o (λ x. own_in (on_found (beside s a) missing treat o).machine x ≡ own_in (on_found (beside s b) missing treat o).machine x)
-found-alike s a b missing treat None h k e = tt
-found-alike s a b missing treat (Some x) h k e =
-    fate-alike s a b x (treat s.time x (own_in (beside s a) x)).fate h k e
-    ∙ ap (λ (o : Own). own_in (put_back (beside s b) x (treat s.time x o).fate) x) e
+-- the own part of the state that was found
+found-own : (s : Shown) (a b : List Own) (c : Call) → IsMachine (beside s a) → IsMachine (beside s b) → (o : Option Sa)
+    → state_found (rule_of s c) ≡ o → IfSome o (λ x. own_in (beside s a) x ≡ own_in (beside s b) x)
+    → IfSome o (λ x. own_in (by_rule (beside s a) (rule_of s c)).machine x ≡ own_in (by_rule (beside s b) (rule_of s c)).machine x)
+found-own s a b c h k None is e = tt
+found-own s a b c h k (Some x) is e =
+    traffic-own (beside s a) (beside s b) c x h k (record { found = is; found_too = is; time = refl; own = e })
 
 -- the own part of the state that a call is for
 pub own-alike : (s : Shown) (a b : List Own) (c : Call) → IsMachine (beside s a) → IsMachine (beside s b) → TellTheSame s a b c
-    → IfSome (state_for s c)
+    → IfSome (state_found (rule_of s c))
     (λ x. own_in (by_rule (beside s a) (rule_of s c)).machine x ≡ own_in (by_rule (beside s b) (rule_of s c)).machine x)
 own-alike s a b (call.Packet packet) h k e =
-    found-alike s a b reply.NoState (packet_at packet) (latest_match s.states (id_of_packet packet)) h.own k.own e
-own-alike s a b (call.Output sid len) h k e = found-alike s a b reply.Stale (output_at len) (find (has_sid sid) s.states) h.own k.own e
+    found-own s a b (call.Packet packet) h k (latest_match s.states (id_of_packet packet)) refl e
+own-alike s a b (call.Output sid len) h k e = found-own s a b (call.Output sid len) h k (find (has_sid sid) s.states) refl e
 own-alike s a b _ h k e = tt
 
 -- own parts by their states, and by their places

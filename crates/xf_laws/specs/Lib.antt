@@ -21,6 +21,12 @@ pub mod StepLaws
 pub mod MoveLaws
 pub mod ReadLaws
 pub mod LeaveLaws
+pub mod NewLaws
+pub mod SpentLaws
+pub mod ChangeLaws
+pub mod IdLaws
+pub mod TrafficLaws
+pub mod RemovalLaws
 pub mod AcceptLaws
 pub mod OwnLaws
 pub mod LaterLaws

@@ -5,8 +5,9 @@ mod laws;
 mod rows;
 
 pub use laws::{
-    acceptances, equalities, first_policies, free_numbers, later, leaves, lookups, machines, moves,
-    one_state, own_parts, reads, shown_answers, steps, tests, updates,
+    acceptances, change_ids, changes, equalities, first_policies, free_numbers, later, leaves,
+    listed_anew, lookups, machines, moves, one_state, own_parts, reads, removals, shown_answers,
+    spent_numbers, steps, tests, traffic, updates,
 };
 pub use rows::{
     batch_rows, change_rows, flow_rows, history_rows, index_rows, limit_rows, own_rows,
