@@ -1,9 +1,6 @@
 -- Worked rows on histories: replies outside the table, the fold of moves, the receipts of a worker, alike numbers.
-use Rattle.std.specs.Prelude.{◌≡◌, ℕ, List, [], ◌∷◌, Some, true, false}
+use Rattle.std.specs.Prelude.{◌≡◌, List, [], ◌∷◌, Some, true, false}
 use Rattle.std.proofs.Common.{lit<}
-use Rattle.xf_types.specs.declared.network.Dir.TheVariants.{Out}
-use Rattle.xf_types.specs.declared.network.Ptype.TheVariants.{Main}
-use Rattle.xf_types.specs.declared.policy.PolicyKey.TheVariants as key
 use Rattle.xf_types.specs.declared.call.Call.{Call}
 use Rattle.xf_types.specs.declared.call.Call.TheVariants as call
 use Rattle.xf_types.specs.declared.call.Event.TheVariants.{StateExpired}
@@ -14,10 +11,7 @@ use Rattle.xf_types.specs.Replay.{accepted_with}
 use Rattle.xf_types.specs.Steps.{empty}
 use Rattle.xf_types.specs.Moves.{after_moves, moves_of}
 use Rattle.xf_types.specs.History.{IsLegalHistory, moves_since}
-use Rattle.xf_examples.specs.Words.{after, usual, ten_to_lab, unmarked, state_to_a2, packet, flow, receipt, add_proto}
-
-abbrev delete_proto : ℕ → Call
-delete_proto proto = call.PolicyDelete (key.Same Out Main (record ten_to_lab { proto = proto }) unmarked 0)
+use Rattle.xf_examples.specs.Words.{after, usual, state_to_a2, packet, flow, receipt, add_proto, delete_proto}
 
 -- slots of deleted policies are held back
 abbrev held_back : List Receipt

@@ -11,5 +11,7 @@ pub mod LimitRows
 pub mod OwnRows
 pub mod FlowRows
 pub mod HistoryRows
+pub mod RefusedHistoryRows
 pub mod BatchRows
+pub mod RefusedBatchRows
 pub mod ChangeRows

@@ -33,6 +33,14 @@ extended_to_a2 window start fits small =
       facts = record { window_fits = fits; in_fits = small; out_fits = lit< tt };
     })
 
+-- an extended state accepts 4294967295 and then 4294967301, and a packet with the same low half is seen
+abbrev pub extended_history : List Receipt
+extended_history =
+    receipt 0 0 1 0 (extended_to_a2 64 4294967280 (lit≤ tt) (lit< tt)) (reply.DoneSid 1)
+    ∷ receipt 1 0 2 0 (packet 4294967295 (lit< tt) 0 true) (reply.Accepted 4294967295 false)
+    ∷ receipt 2 0 3 0 (packet 5 (lit< tt) 0 true) (reply.Accepted 4294967301 false)
+    ∷ receipt 3 0 4 0 (packet 5 (lit< tt) 0 true) (reply.Seen 4294967301) ∷ []
+
 pub record WindowRows : Type 0 where
   pub window :
       replies usual
@@ -54,3 +62,5 @@ pub record WindowRows : Type 0 where
       ≡ reply.DoneSid 1 ∷ reply.Zero ∷ reply.Old 0 ∷ reply.Accepted 4294967264 false ∷ []
   -- each number is accepted once
   pub accepted : acceptings usual window_history ≡ accepts 1 ∷ accepts 33 ∷ accepts 2 ∷ []
+  -- of an extended state the whole number is what is accepted
+  pub accepted_extended : acceptings usual extended_history ≡ accepts 4294967295 ∷ accepts 4294967301 ∷ []

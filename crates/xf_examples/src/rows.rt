@@ -3,6 +3,8 @@ ghost use Rattle.xf_examples.specs.BatchRows.{BatchRows};
 ghost use Rattle.xf_examples.specs.FlowRows.{FlowRows};
 ghost use Rattle.xf_examples.specs.HistoryRows.{HistoryRows};
 ghost use Rattle.xf_examples.specs.IndexRows.{IndexRows};
+ghost use Rattle.xf_examples.specs.RefusedBatchRows.{RefusedBatchRows};
+ghost use Rattle.xf_examples.specs.RefusedHistoryRows.{RefusedHistoryRows};
 ghost use Rattle.xf_examples.specs.PolicyFilterRows.{PolicyFilterRows};
 ghost use Rattle.xf_examples.specs.ThresholdRows.{ThresholdRows};
 ghost use Rattle.xf_examples.specs.PolicyRows.{PolicyRows};
@@ -76,4 +78,14 @@ pub fn own_rows()
 /// Rows on change ids.
 pub fn change_rows()
     ensures { ChangeRows }
+{}
+
+/// Rows on histories that may not be.
+pub fn refused_history_rows()
+    ensures { RefusedHistoryRows }
+{}
+
+/// Rows on histories that are no shuffle of a phase.
+pub fn refused_batch_rows()
+    ensures { RefusedBatchRows }
 {}

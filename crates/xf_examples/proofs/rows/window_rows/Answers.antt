@@ -7,4 +7,5 @@ returns c = record {
   extended = refl;
   no_number = refl;
   accepted = refl;
+  accepted_extended = refl;
 }
