@@ -59,6 +59,10 @@ numbered first second =
 abbrev pub answers : Call → Reply → List Receipt
 answers c r = receipt 0 0 1 0 c r ∷ []
 
+-- a policy is refused for want of memory, and a count is answered
+abbrev pub unadded_then : Reply → List Receipt
+unadded_then r = receipt 0 0 1 0 (add_proto 1) reply.NoMemory ∷ receipt 1 0 2 0 call.PolicyCount r ∷ []
+
 -- a state accepts number 7, and a second packet of this number is answered
 abbrev pub accepted_then : Reply → List Receipt
 accepted_then r =
@@ -101,6 +105,9 @@ pub record RefusedHistoryRows : Type 0 where
   pub wrong_index : IsRefused usual (answers (add_proto 1) (reply.DoneIndex 17))
   pub wrong_kind : IsRefused usual (answers (add_proto 1) reply.Done)
   pub no_entry : IsRefused usual (answers (delete_proto 1) (reply.DoneIndex 9))
+  -- want of memory leaves the machine
+  pub added_without_memory : IsRefused usual (unadded_then (reply.PolicyCount 0 1 0))
+  pub not_added : IsLegalHistory usual (unadded_then (reply.PolicyCount 0 0 0))
   -- a number is accepted once
   pub accepted_twice : IsRefused usual (accepted_then (reply.Accepted 7 false))
   pub not_once : AcceptsOnce usual (accepted_then (reply.Accepted 7 false)) → ⊥

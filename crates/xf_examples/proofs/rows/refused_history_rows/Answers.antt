@@ -25,6 +25,8 @@ returns c = record {
   wrong_index = λ h. let f = h.replies.0 in cc;
   wrong_kind = λ h. let f = h.replies.0 in cc;
   no_entry = λ h. let f = h.replies.0 in cc;
+  added_without_memory = λ h. let f = h.replies.1.0 in cc;
+  not_added = record { in_order = (lit< tt, tt); replies = (tt, (refl, tt)) };
   accepted_twice = λ h. let f = h.replies.1.1.0 in cc;
   not_once = λ h. h 0 1 (record { sid = 0; number = 0 }) (lit< tt) (lit< tt) refl;
   seen = record { in_order = (lit< tt, (lit< tt, tt)); replies = (refl, (refl, (refl, tt))) };
