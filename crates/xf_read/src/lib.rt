@@ -34,6 +34,8 @@ mod tests_bad_states;
 #[cfg(test)]
 mod tests_bad_templates;
 #[cfg(test)]
+mod tests_hostile;
+#[cfg(test)]
 mod tests_policies;
 #[cfg(test)]
 mod tests_requests;

@@ -124,6 +124,107 @@ limit time-soft 1 limit time-hard 2 limit time-use-soft 3 limit time-use-hard 0x
 }
 
 #[test]
+fn edges_of_policies_are_read(rt: HostRuntime) -> Result<(), Fail> {
+    let mut reader = reader(rt.alloc())?;
+    let none = Limits::none();
+    let all_ones = Mark {
+        value: u32::MAX,
+        mask: u32::MAX,
+    };
+    let unmarked = Mark { value: 0, mask: 0 };
+    let cases: [(&[u8], u32, Mark, Limits); 11] = [
+        (b"index 4294967295", u32::MAX, unmarked, none),
+        (b"mark 4294967295", 0, all_ones, none),
+        (
+            b"limit byte-hard 18446744073709551615",
+            0,
+            unmarked,
+            Limits {
+                byte_hard: Some(u64::MAX),
+                ..none
+            },
+        ),
+        (
+            b"limit byte-soft 18446744073709551615",
+            0,
+            unmarked,
+            Limits {
+                byte_soft: Some(u64::MAX),
+                ..none
+            },
+        ),
+        (
+            b"limit packet-hard 0",
+            0,
+            unmarked,
+            Limits {
+                packet_hard: Some(0),
+                ..none
+            },
+        ),
+        (
+            b"limit packet-hard 18446744073709551615",
+            0,
+            unmarked,
+            Limits {
+                packet_hard: Some(u64::MAX),
+                ..none
+            },
+        ),
+        (
+            b"limit packet-soft 0",
+            0,
+            unmarked,
+            Limits {
+                packet_soft: Some(0),
+                ..none
+            },
+        ),
+        (
+            b"limit packet-soft 18446744073709551615",
+            0,
+            unmarked,
+            Limits {
+                packet_soft: Some(u64::MAX),
+                ..none
+            },
+        ),
+        (
+            b"limit time-soft 18446744073709551615",
+            0,
+            unmarked,
+            Limits {
+                time_soft: u64::MAX,
+                ..none
+            },
+        ),
+        (b"limit time-use-hard 0", 0, unmarked, none),
+        (
+            b"limit time-use-soft 18446744073709551615",
+            0,
+            unmarked,
+            Limits {
+                use_soft: u64::MAX,
+                ..none
+            },
+        ),
+    ];
+    for (words, index, mark, limits) in cases {
+        let wanted = PolicySpec {
+            index,
+            mark,
+            limits,
+            ..spec(Dir::Out, every())
+        };
+        assert_eq!(rt;
+            read(&mut reader, rt.alloc(), b"xfrm policy add dir out ", words)?,
+            Item::One(Call::PolicyAdd(wanted))
+        );
+    }
+    Ok(())
+}
+
+#[test]
 fn a_prefix_without_family_takes_the_others(rt: HostRuntime) -> Result<(), Fail> {
     let mut reader = reader(rt.alloc())?;
     let to_v6 = between(v6(0, 0), v6(1, 128));
@@ -172,8 +273,18 @@ fn keys_are_read(rt: HostRuntime) -> Result<(), Fail> {
         dir: Dir::Out,
         index,
     };
-    let cases: [(&[u8], PolicyKey); 5] = [
+    let outward = |value, mask, if_id| PolicyKey::Same {
+        dir: Dir::Out,
+        ptype: Ptype::Main,
+        sel: every(),
+        mark: Mark { value, mask },
+        if_id,
+    };
+    let cases: [(&[u8], PolicyKey); 8] = [
         (b"dir in", plain),
+        (b"dir out if_id 4294967295", outward(0, 0, u32::MAX)),
+        (b"dir out index 4294967295", index(u32::MAX)),
+        (b"dir out mark 4294967295", outward(u32::MAX, u32::MAX, 0)),
         (b"dir in src any proto 0", plain),
         (b"index 9 dir out", index(9)),
         (b"dir out index 0", index(0)),
@@ -214,8 +325,33 @@ fn filters_are_read(rt: HostRuntime) -> Result<(), Fail> {
         sport: Some(1),
         dport: Some(255),
     };
-    let cases: [(&[u8], PolicyFilter); 5] = [
+    let numbered = |index, priority| PolicyFilter {
+        index,
+        priority,
+        ..open_filter()
+    };
+    let ported = |proto, sport, dport| PolicyFilter {
+        proto: Some(proto),
+        sport,
+        dport,
+        ..open_filter()
+    };
+    let cases: [(&[u8], PolicyFilter); 13] = [
         (b"", open_filter()),
+        (
+            b"action allow",
+            PolicyFilter {
+                action: Some(Action::Allow),
+                ..open_filter()
+            },
+        ),
+        (b"flag icmp flag icmp", open_filter()),
+        (b"index 4294967295", numbered(Some(u32::MAX), None)),
+        (b"priority 0", numbered(None, Some(0))),
+        (b"priority 4294967295", numbered(None, Some(u32::MAX))),
+        (b"proto icmp type 255", ported(1, Some(255), None)),
+        (b"proto tcp dport 65535", ported(6, None, Some(65535))),
+        (b"proto tcp sport 65535", ported(6, Some(65535), None)),
         (b"nosock flag localok", open_filter()),
         (
             b"src any",
@@ -260,7 +396,8 @@ proto ipv6-icmp type 1 code 255 flag icmp icmp",
 #[test]
 fn other_policy_lines_are_read(rt: HostRuntime) -> Result<(), Fail> {
     let mut reader = reader(rt.alloc())?;
-    let lengths: [(&[u8], Option<(u8, u8)>, Option<(u8, u8)>); 3] = [
+    let lengths: [(&[u8], Option<(u8, u8)>, Option<(u8, u8)>); 4] = [
+        (b"xfrm policy set hthresh4 0 32", Some((0, 32)), None),
         (b"xfrm policy set hthresh4 32 0", Some((32, 0)), None),
         (b"xfrm policy set hthresh6 0 128", None, Some((0, 128))),
         (

@@ -119,7 +119,17 @@ fn requests_for_spis_are_read(rt: HostRuntime) -> Result<(), Fail> {
         mask: u32::MAX,
     };
     let from_v6 = alloc(Addr::V6(0), Addr::V6(2), Proto::Esp, 0x100, 0x0fffffff);
-    let cases: [(&[u8], AllocSpec); 19] = [
+    let mut all_ones = marked;
+    all_ones.mark.value = u32::MAX;
+    let mut required = esp(0x100, 0x0fffffff);
+    required.reqid = u32::MAX;
+    let cases: [(&[u8], AllocSpec); 22] = [
+        (b"dst 192.0.2.2 proto esp mark 4294967295", all_ones),
+        (
+            b"dst 192.0.2.2 proto esp min 4294967295",
+            esp(u32::MAX, 0x0fffffff),
+        ),
+        (b"dst 192.0.2.2 proto esp reqid 4294967295", required),
         (b"dst 192.0.2.2 proto esp", esp(0x100, 0x0fffffff)),
         (
             b"dst 192.0.2.2 proto ah",
@@ -191,7 +201,22 @@ fn sends_are_read(rt: HostRuntime) -> Result<(), Fail> {
         sport: 128,
         ..flow(Dir::Out, Addr::V6(1), Addr::V6(2))
     };
-    let cases: [(&[u8], Flow, u32); 8] = [
+    let marked = Flow {
+        mark: u32::MAX,
+        ..plain
+    };
+    let unreachable = Flow {
+        proto: 1,
+        sport: 255,
+        ..plain
+    };
+    let cases: [(&[u8], Flow, u32); 10] = [
+        (b"src 192.0.2.1 dst 192.0.2.2 mark 4294967295", marked, 0),
+        (
+            b"src 192.0.2.1 dst 192.0.2.2 proto icmp type 255",
+            unreachable,
+            0,
+        ),
         (b"src 192.0.2.1 dst 192.0.2.2", plain, 0),
         (b"src 192.0.2.1 dst 192.0.2.2 len 10", plain, 10),
         (b"len 0x5dc dst 192.0.2.2 src 192.0.2.1", plain, 1500),

@@ -1,0 +1,17 @@
+pub mod Words
+pub mod PolicyWords
+pub mod PolicyRows
+pub mod IndexRows
+pub mod PolicyFilterRows
+pub mod ThresholdRows
+pub mod StateRows
+pub mod StateFilterRows
+pub mod WindowRows
+pub mod LimitRows
+pub mod OwnRows
+pub mod FlowRows
+pub mod HistoryRows
+pub mod RefusedHistoryRows
+pub mod BatchRows
+pub mod RefusedBatchRows
+pub mod ChangeRows
