@@ -1,5 +1,5 @@
 //! A state taken from its parts, read, and given a new record.
-ghost use Rattle.std.specs.Prelude.{◌≡◌};
+ghost use Rattle.std.specs.Prelude.{◌≡◌, IfOk};
 ghost use Rattle.xf_held.specs.View.{held, own_shown, FitsRecord, KeepsNumbers};
 ghost use Rattle.xf_life.specs.Shown.{shown};
 ghost use Rattle.xf_types.specs.Lifetime.{by_time};
@@ -7,7 +7,7 @@ ghost use Rattle.xf_types.specs.Lifetime.{by_time};
 use crate::held::Held;
 use xf_life::Verdict;
 use xf_replay::Own;
-use xf_types::Sa;
+use xf_types::{NoMemory, Sa};
 
 impl Held {
     /// The state with this record and this own part.
@@ -18,9 +18,30 @@ impl Held {
         Held { state: *state, own }
     }
 
+    /// A second state with the same record and own part.
+    pub fn copy(&self) -> Result<Held, NoMemory>
+        ensures { IfOk result (λ h. h ≡ self.now) }
+    {
+        let window = match self.own.window.copy() {
+            Ok(window) => window,
+            Err(_) => return Err(NoMemory),
+        };
+        Ok(Held {
+            state: self.state,
+            own: Own {
+                window,
+                out: self.own.out,
+                packets: self.own.packets,
+                bytes: self.own.bytes,
+                first: self.own.first,
+            },
+        })
+    }
+
     /// The state's own part.
     pub fn own(&self) -> &Own
-        ensures { own_shown result.now ≡ self.now.own }
+        ensures part { own_shown result.now ≡ self.now.own }
+        ensures fits { FitsRecord self.now.state result.now }
     {
         &self.own
     }

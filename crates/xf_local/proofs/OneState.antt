@@ -1,20 +1,25 @@
 -- The machine that has one state alone, step by step.
-use Rattle.std.proofs.Common.{◌≡◌, ℕ, Bool, true, false, cond, refl, ap, sym, ◌∙◌}
-use Rattle.std.specs.Prelude.{◌==◌, None, Some}
+use Rattle.std.proofs.Common.{◌≡◌, ℕ, max, Bool, true, false, not, cond, List, [], ◌∷◌, map, refl, ap, sym, ◌∙◌}
+use Rattle.std.specs.Prelude.{◌==◌, Option, None, Some, option_to_list}
+use Rattle.std.specs.List.{cons_option}
 use Rattle.std.proofs.lemmas.Bool.{eq-eqb}
 use Rattle.xf_types.specs.declared.state.Sa.{Sa}
+use Rattle.xf_types.specs.declared.call.Call.TheVariants.{Tick}
+use Rattle.xf_types.specs.declared.call.Event.{Event}
 use Rattle.xf_types.specs.declared.call.Packet.{Packet}
-use Rattle.xf_types.specs.declared.call.Reply.TheVariants.{NoState, Stale}
+use Rattle.xf_types.specs.declared.call.Reply.TheVariants.{NoState, Stale, Ticked}
 use Rattle.xf_types.specs.Machine.{Own, Outcome, outcome}
 use Rattle.xf_types.specs.OneState.{on_state, on_found, put_back}
 use Rattle.xf_types.specs.OwnParts.{own_in}
 use Rattle.xf_types.specs.StateList.{has_id}
+use Rattle.xf_types.specs.Steps.{step}
+use Rattle.xf_types.specs.TickRules.{state_ends, state_event, state_later, own_part}
 use Rattle.xf_types.specs.TrafficRules.{Fate, Same, Ends, Becomes, Treated, id_of_packet, packet_at, output_at}
 use Rattle.xf_held.specs.View.{HeldView, held, fated, is_end}
 use Rattle.xf_held.specs.Traffic.{Does}
 use Rattle.xf_held.specs.declared.traffic.Treatment.{Treatment}
-use Rattle.xf_local.specs.View.{LiveView, Dead, Live}
-use Rattle.xf_local.specs.Alone.{Traffic, machine_of, step_of, left_in, Inward, Outward}
+use Rattle.xf_local.specs.View.{LiveView, Dead, Live, aged, event_of, live_later}
+use Rattle.xf_local.specs.Alone.{Traffic, machine_of, step_of, first_at, left_in, Inward, Outward}
 use Rattle.xf_local.specs.Answering.{Treats}
 use Rattle.xf_local.specs.Laws.{machine_after}
 
@@ -98,3 +103,22 @@ pub output-treats : (did : Treatment) (l : LiveView) (new : HeldView) (len : ℕ
     → Treats did l (record { state = new.state; own = new.own; time = l.time }) (Outward len)
 output-treats did l new len does =
     treats-by did l new (Outward len) (output_at len l.time l.state l.own) (output-alone l len) does
+
+-- ---- the passing of time
+
+pub tick-event : (l : LiveView) (given : ℕ)
+    → (step (machine_of l) (Tick given)).reply ≡ Ticked (max l.time given) (option_to_list (event_of (max l.time given) (Live l)))
+tick-event l given =
+    elim (state_event (max l.time given) (l.state, l.own))
+    as (λ (e : Option Event). Ticked (max l.time given) (cons_option e []) ≡ Ticked (max l.time given) (option_to_list e))
+    [ None ↦ refl | Some e ↦ refl ]
+
+pub tick-aged : (l : LiveView) (given : ℕ)
+    → left_in (step (machine_of l) (Tick given)).machine ≡ aged (max l.time given) (Live l)
+tick-aged l given =
+    let now = max l.time given in
+    let pairs : List (Sa × Own) = (l.state, l.own) ∷ [] in
+    elim (state_ends now (l.state, l.own))
+    as (λ b. first_at now (map (state_later now) (cond (not b) pairs [])) (map own_part (cond (not b) pairs []))
+    ≡ cond b Dead (Live (live_later now l)))
+    [ true ↦ refl | false ↦ refl ]

@@ -1,10 +1,13 @@
 -- One state's changing part, as contracts see it.
-use Rattle.std.specs.Prelude.{ℕ, Bool, true, false, List, Option, None, Some}
+use Rattle.std.specs.Prelude.{ℕ, Bool, true, false, List, Option, None, Some, if◌then◌else◌}
+use Rattle.xf_types.specs.declared.call.Event.{Event}
 use Rattle.xf_types.specs.declared.state.Sa.{Sa}
 use Rattle.xf_types.specs.Machine.{Own}
 use Rattle.xf_types.specs.Lifetime.{Verdict, by_time}
 use Rattle.xf_types.specs.OwnParts.{new_own}
-use Rattle.xf_held.specs.View.{KeepsNumbers}
+use Rattle.xf_types.specs.TickRules.{state_ends, state_event, state_later}
+use Rattle.xf_held.specs.View.{FitsRecord, KeepsNumbers}
+use Rattle.xf_replay.specs.declared.own.Own.{Own as OwnPart}
 use Rattle.xf_types.specs.Standing.{Standing, Nothing, OneState}
 
 -- a state's record with its own part, and the time
@@ -46,6 +49,25 @@ MayHave (Live l) s = KeepsNumbers l.state s
 abbrev pub own_part : LocalView → Option Own
 own_part Dead = None
 own_part (Live l) = Some l.own
+
+-- an own part of a listed state fits its record
+abbrev pub FitsValue : LocalView → OwnPart → Type 0
+FitsValue Dead own = ⊥
+FitsValue (Live l) own = FitsRecord l.state own
+
+-- a listed state that stays, at a later time
+abbrev pub live_later : ℕ → LiveView → LiveView
+live_later now l = record l { state = state_later now (l.state, l.own); time = now }
+
+-- at a later time: a state that time ends isn't listed any more
+abbrev pub aged : ℕ → LocalView → LocalView
+aged now Dead = Dead
+aged now (Live l) = if state_ends now (l.state, l.own) then Dead else Live (live_later now l)
+
+-- what is reported of a listed state at a time
+abbrev pub event_of : ℕ → LocalView → Option Event
+event_of now Dead = None
+event_of now (Live l) = state_event now (l.state, l.own)
 
 -- what the limits of time and use say of a listed state
 abbrev pub due_of : LocalView → Option Verdict

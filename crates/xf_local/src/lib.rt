@@ -2,6 +2,7 @@
 //! database's turn is needed.
 #![tactic(auto)]
 
+mod aging;
 mod answer;
 mod laws;
 mod listed;

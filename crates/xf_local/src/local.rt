@@ -1,9 +1,9 @@
 //! One state's changing part.
-ghost use Rattle.std.specs.Prelude.{◌≡◌, ◌≤◌, IsTrue, Some, option_copied};
+ghost use Rattle.std.specs.Prelude.{◌≡◌, ◌≤◌, IfSome, IsTrue, Some, option_copied};
 ghost use Rattle.std.specs.Option.{option_map};
 ghost use Rattle.xf_held.specs.View.{own_shown};
 ghost use Rattle.xf_life.specs.Shown.{shown};
-ghost use Rattle.xf_local.specs.View.{Dead, Live, is_live, new_live, renewed, at_time, MayHave, own_part, due_of};
+ghost use Rattle.xf_local.specs.View.{Dead, Live, is_live, new_live, renewed, at_time, MayHave, FitsValue, own_part, due_of};
 
 use crate::listed::Listed;
 use std::marker::Model;
@@ -96,7 +96,8 @@ impl Local {
 
     /// The state's own part; none where the value is dead.
     pub fn own(&self) -> Option<&Own>
-        ensures { option_map own_shown (option_copied result) ≡ own_part self.now }
+        ensures part { option_map own_shown (option_copied result) ≡ own_part self.now }
+        ensures fits { IfSome result (λ own. FitsValue self.now own.now) }
     {
         match &self.live {
             None => None,

@@ -5,7 +5,7 @@ use std::process::Abort;
 use std::test::Fail;
 use xf_life::Verdict;
 use xf_replay::{NoMemory, Window};
-use xf_types::{Addr, Limits, Mark, Mode, Packet, Proto, Reply, Sa, SaSpec, Stands};
+use xf_types::{Addr, Event, Limits, Mark, Mode, Packet, Proto, Reply, Sa, SaSpec, Stands};
 
 fn state(limits: Limits) -> Sa {
     Sa {
@@ -172,5 +172,26 @@ fn time_and_record_are_replaced(rt: HostRuntime) -> Result<(), Fail> {
         Some(own) => assert_eq!(rt; own.first, Some(10)),
         None => assert!(rt; false, "it is live"),
     }
+    Ok(())
+}
+
+#[test]
+fn time_ends_a_value_that_is_handed_on(rt: HostRuntime) -> Result<(), Fail> {
+    let mut first = state(Limits::none());
+    first.spec.limits.time_soft = 5;
+    first.spec.limits.time_hard = 10;
+    let window = Window::new(rt.alloc(), first.spec.window, first.spec.in_seq)?;
+    let mut local = handed_on(Local::new(&first, window, 0));
+    for (now, event) in [
+        (4, None),
+        (5, Some(Event::StateSoft(1))),
+        (9, None),
+        (10, Some(Event::StateExpired(1))),
+        (11, None),
+    ] {
+        assert_eq!(rt; local.event(now), event, "at {now}");
+        local.age(now);
+    }
+    assert!(rt; local.own().is_none(), "it ended");
     Ok(())
 }

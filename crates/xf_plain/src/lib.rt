@@ -10,4 +10,4 @@ mod removing;
 #[cfg(test)]
 mod tests;
 
-pub use plain::Plain;
+pub use plain::{Plain, PlainParts};

@@ -1,8 +1,9 @@
 //! Walks over the policy list: where a policy stands, and the policy that a flow gets.
-ghost use Rattle.std.specs.Prelude.{◌≡◌, ◌≤◌, ◌<◌, length, find, position, option_copied, OnOk, OnErr, IsOk, vec_capacity};
-ghost use Rattle.std.specs.List.{position_or_len};
-ghost use Rattle.xf_types.specs.PolicyList.{applies, comes_after, inserted, is_same, has_key, first_policy};
+ghost use Rattle.std.specs.Prelude.{◌≡◌, ◌≤◌, ◌<◌, length, find, position, option_copied, OnOk, OnErr, IfOk, IsOk, count_by, not, vec_capacity};
+ghost use Rattle.std.specs.List.{list_any, position_or_len};
+ghost use Rattle.xf_types.specs.PolicyList.{applies, comes_after, inserted, is_same, has_index, has_key, first_policy};
 
+use crate::indices;
 use xf_types::{Flow, NoMemory, Policy, PolicyKey, PolicySpec, Ptype, same_policy};
 
 /// Where the first policy stands that comes after this one.
@@ -62,4 +63,24 @@ pub fn find_first<'a>(policies: &'a [Policy], flow: &Flow) -> Option<&'a Policy>
         Some(policy) => Some(policy),
         None => find_applying(policies, Ptype::Main, flow),
     }
+}
+
+/// The same policies once more.
+pub fn copies(policies: &Vec<Policy>) -> Result<Vec<Policy>, NoMemory>
+    ensures { IfOk result (λ v. v.items ≡ policies.now.items) }
+{
+    match policies.clone() {
+        Ok(copies) => Ok(copies),
+        Err(_) => Err(NoMemory),
+    }
+}
+
+/// How many of the policies have no index of the other list.
+pub fn count_gone(policies: &[Policy], later: &[Policy]) -> usize
+    ensures { result ≡ count_by (λ p. not (list_any (has_index p.index) later.now)) policies.now }
+{
+    policies
+        .iter()
+        .filter(|p| !indices::is_taken(later, p.index))
+        .count()
 }

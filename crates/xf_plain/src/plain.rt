@@ -3,12 +3,14 @@ ghost use Rattle.std.specs.Prelude.{◌≡◌, ◌≢◌, ◌<◌, ◌≤◌, �
 ghost use Rattle.xf_plain.specs.Growth.{GrowsLittle};
 
 mod flows;
+mod parts;
 mod policies;
 mod spis;
 mod states;
 mod time;
 
 use crate::{indices, listing};
+pub use parts::PlainParts;
 use std::alloc::Global;
 use std::marker::Model;
 use xf_states::StateTable;

@@ -5,3 +5,4 @@ pub mod Founds
 pub mod Walks
 pub mod Ages
 pub mod FreeSpis
+pub mod Joined

@@ -9,7 +9,8 @@ use Rattle.xf_types.specs.OwnParts.{new_own, own_without, own_of, own_put}
 use Rattle.xf_types.specs.OneState.{dying_if}
 use Rattle.xf_types.specs.TrafficRules.{Fate, Same, Ends, Becomes, Treated}
 use Rattle.xf_types.specs.TickRules.{state_ends, state_later, own_part}
-use Rattle.xf_held.specs.View.{HeldView, held}
+use Rattle.xf_held.specs.View.{HeldView, held, own_shown}
+use Rattle.xf_replay.specs.declared.own.Own.{Own as OwnPart}
 
 -- the states and their own parts, in one order
 pub record TableView : Type 0 where
@@ -66,3 +67,9 @@ abbrev pub table_later : ℕ → TableView → TableView
 table_later now t =
     let stay = without (state_ends now) (zip t.states t.own) in
     record { states = map (state_later now) stay; own = map own_part stay }
+
+-- the states with these records and own parts
+abbrev pub zipped : List Sa → List OwnPart → List HeldView
+zipped states [] = []
+zipped [] (o ∷ own) = []
+zipped (s ∷ states) (o ∷ own) = held s (own_shown o) ∷ zipped states own

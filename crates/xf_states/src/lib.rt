@@ -3,6 +3,7 @@
 
 mod counter;
 mod events;
+mod parts;
 mod spis;
 mod table;
 

@@ -27,7 +27,7 @@ use xf_types::{
 /// The states, the latest last.
 #[derive(Debug, Drop)]
 pub struct StateTable {
-    held: Vec<Held>,
+    pub(crate) held: Vec<Held>,
 }
 
 impl Model for StateTable {
