@@ -3,9 +3,10 @@ use super::*;
 use arrayvec::ArrayVec;
 use std::process::Abort;
 use std::test::Fail;
+use xf_replay::{Own, Window};
 use xf_types::{
     Action, Addr, AllocSpec, Call, Dir, Event, Flow, Limits, Mark, Mode, Packet, PolicySpec,
-    Prefix, Proto, Ptype, Reply, SaFilter, SaSpec, Selector, Template, Templates,
+    Prefix, Proto, Ptype, Reply, Sa, SaFilter, SaSpec, Selector, Template, Templates, Thresholds,
 };
 
 fn policy() -> PolicySpec {
@@ -63,6 +64,14 @@ fn packet() -> Call {
     })
 }
 
+// What the packet is answered at first.
+fn accepted() -> Reply {
+    Reply::Accepted {
+        top: 5,
+        soft: false,
+    }
+}
+
 fn any_of(min: u32, max: u32) -> Call {
     Call::AllocSpi(AllocSpec {
         src: Addr::V4(0),
@@ -111,13 +120,7 @@ fn state_is_added_used_updated_and_listed(rt: HostRuntime) -> Result<(), Fail> {
     for (call, answer) in [
         (Call::StateAdd(spec()), Reply::DoneSid(1)),
         (Call::StateAdd(spec()), Reply::StateExists(1)),
-        (
-            packet(),
-            Reply::Accepted {
-                top: 5,
-                soft: false,
-            },
-        ),
+        (packet(), accepted()),
         (packet(), Reply::Seen { top: 5 }),
         (Call::StateUpdate(spec()), Reply::DoneSid(1)),
     ] {
@@ -211,6 +214,92 @@ fn least_free_spi_is_given_then_the_next(rt: HostRuntime) -> Result<(), Fail> {
         (any_of(0x1000, 0x1001), Reply::NoSpi),
         (any_of(0x1001, 0x1000), Reply::Invalid),
         (packet(), Reply::Larval),
+    ] {
+        assert_eq!(rt; reply(&rt, &mut plain, &call), answer);
+    }
+    Ok(())
+}
+
+// A policy on this interface.
+fn policy_on(if_id: u32) -> Call {
+    let mut spec = policy();
+    spec.if_id = if_id;
+    Call::PolicyAdd(spec)
+}
+
+#[test]
+fn copy_goes_on_where_the_machine_stands(rt: HostRuntime) -> Result<(), Fail> {
+    let mut plain = Plain::new(rt.alloc())?;
+    for (call, answer) in [
+        (policy_on(0), Reply::DoneIndex(9)),
+        (Call::StateAdd(spec()), Reply::DoneSid(1)),
+    ] {
+        assert_eq!(rt; reply(&rt, &mut plain, &call), answer);
+    }
+    let mut copy = plain.copy()?;
+    for (call, answer) in [(policy_on(1), Reply::DoneIndex(17)), (packet(), accepted())] {
+        assert_eq!(rt; reply(&rt, &mut copy, &call), answer);
+    }
+    assert_eq!(rt; copy.policies_gone(&plain), 1);
+    assert_eq!(rt; copy.states_gone(&plain), 0);
+    Ok(())
+}
+
+#[test]
+fn filled_machine_takes_no_more(rt: HostRuntime) -> Result<(), Fail> {
+    let mut plain = Plain::new(rt.alloc())?;
+    assert_eq!(rt; reply(&rt, &mut plain, &policy_on(0)), Reply::DoneIndex(9));
+    plain.fill_policies();
+    plain.fill_states();
+    assert_eq!(rt; (plain.policies(), plain.max_policies()), (1, 1));
+    assert_eq!(rt; (plain.states(), plain.max_states()), (0, 0));
+    for (call, live) in [(policy_on(1), 1), (Call::StateAdd(spec()), 0)] {
+        assert_eq!(rt;
+            reply(&rt, &mut plain, &call),
+            Reply::Full { live, waiting: 0 }
+        );
+    }
+    Ok(())
+}
+
+#[test]
+fn machine_of_parts_goes_on(rt: HostRuntime) -> Result<(), Fail> {
+    let alloc = rt.alloc();
+    let state = Sa {
+        sid: 4,
+        added: 0,
+        larval: false,
+        dying: false,
+        spec: spec(),
+    };
+    let own = Own {
+        window: Window::new(alloc, state.spec.window, 3)?,
+        out: 0,
+        packets: 1,
+        bytes: 100,
+        first: Some(2),
+    };
+    let mut plain = Plain::of(PlainParts {
+        policies: Vec::new(alloc),
+        states: Vec::from_array(alloc, [state])?,
+        own: Vec::from_array(alloc, [own])?,
+        room: Vec::with_capacity(alloc, 1)?,
+        next_index: 2,
+        next_seq: 1,
+        next_sid: 5,
+        next_number: 2,
+        thresholds: Thresholds {
+            v4: Some((32, 32)),
+            v6: Some((128, 128)),
+        },
+        now: 3,
+        max_policies: 4096,
+        max_states: 8192,
+    });
+    for (call, answer) in [
+        (policy_on(0), Reply::DoneIndex(17)),
+        (packet(), accepted()),
+        (Call::StateAdd(spec()), Reply::StateExists(4)),
     ] {
         assert_eq!(rt; reply(&rt, &mut plain, &call), answer);
     }
