@@ -6,7 +6,7 @@ use Rattle.std.proofs.lemmas.List.{get_or-map, length-map}
 use Rattle.xf_types.specs.declared.state.Sa.{Sa}
 use Rattle.xf_replay.specs.declared.own.Own.{Own as OwnPart}
 use Rattle.xf_held.specs.View.{HeldView, FitsRecord, held, own_shown}
-use Rattle.xf_states.specs.Table.{zipped, table_of, TableView}
+use Rattle.xf_states.specs.Table.{zipped, table_of}
 
 pub zip-length : {A B : Type 0} (R : A → B → Type 0) (xs : List A) (ys : List B) → AllZip R xs ys → length ys ≡ length xs
 zip-length R [] [] each = refl
