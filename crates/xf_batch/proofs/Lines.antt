@@ -1,12 +1,13 @@
 -- Where logical lines end, piece by piece.
 use Rattle.std.proofs.Common.{◌≡◌, ℕ, zero, suc, ◌+◌, ◌<◌, Bool, true, false, ◌||◌, List, [], ◌∷◌, ◌++◌, length, take, drop, get_or, refl, sym, ap, ◌∙◌, arith, append-nil, append_assoc}
+use Rattle.std.specs.List.{filter}
 use Rattle.std.proofs.lemmas.List.{take_more, take-append-drop}
 use Rattle.std.proofs.lemmas.Bool.Decides.{nat_tests}
 use Rattle.xf_lex.specs.declared.quoting.Quoting.{Quoting}
 use Rattle.xf_lex.specs.declared.quoting.Quoting.TheVariants.{Bare}
 use Rattle.xf_lex.specs.Quotes.{after, is_slash}
 use Rattle.xf_lex.specs.LogicalLines.{lines_from, lines_of}
-use Rattle.xf_batch.specs.LineEnds.{ends_at, ends_within}
+use Rattle.xf_batch.specs.LineEnds.{ends_at, ends_within, has_feed}
 use Rattle.xf_batch.specs.Scans.{quoting_behind, counted_in}
 
 pub quoting_behind-append : (m : Quoting) (xs ys : List ℕ) → quoting_behind m (xs ++ ys) ≡ quoting_behind (quoting_behind m xs) ys
@@ -47,6 +48,18 @@ ends_within-more m bytes i within before here =
     ap (ends_within m) (take_more bytes i 0 within)
     ∙ ends_within-append m (take i bytes) (get_or bytes i 0 ∷ [])
     ∙ or_false (ends_within m (take i bytes)) (ends_at (quoting_behind m (take i bytes)) (get_or bytes i 0)) before here
+
+pub or_last : (a b : Bool) → b ≡ true → (a || (b || false)) ≡ true
+or_last true b q = refl
+or_last false b q = rw (q) refl
+
+-- where no line ends within some bytes, none ends within their front
+pub ends_within-front : (m : Quoting) (xs ys : List ℕ) → ends_within m (xs ++ ys) ≡ false → ends_within m xs ≡ false
+ends_within-front m xs ys e = (neither (ends_within m xs) (ends_within (quoting_behind m xs) ys) (sym (ends_within-append m xs ys) ∙ e)).0
+
+pub ends_within-take : (m : Quoting) (n : ℕ) (bytes : List ℕ) → ends_within m bytes ≡ false → ends_within m (take n bytes) ≡ false
+ends_within-take m n bytes e =
+    ends_within-front m (take n bytes) (drop n bytes) (ap (ends_within m) (take-append-drop n bytes) ∙ e)
 
 or_true : (a b : Bool) → b ≡ true → (a || b) ≡ true
 or_true true b e = refl
@@ -102,3 +115,9 @@ pub last_line : (bytes : List ℕ) → ends_within Bare bytes ≡ false → 0 < 
 last_line [] goes_on some = absurd (omega (arith, some))
 last_line (b ∷ bs) goes_on some =
     ap lines_of (sym (append-nil (b ∷ bs))) ∙ lines_from-unended Bare [] (b ∷ bs) [] goes_on
+
+-- so those of these bytes that are whole are none
+pub no_feeds : (bytes : List ℕ) → ends_within Bare bytes ≡ false → filter has_feed (lines_of bytes) ≡ []
+no_feeds [] goes_on = refl
+no_feeds (b ∷ bs) goes_on =
+    ap (λ (ls : List (List ℕ)). filter has_feed ls) (last_line (b ∷ bs) goes_on (omega arith)) ∙ rw (goes_on) refl

@@ -1,98 +1,167 @@
 -- The next line among the bytes to come, taken from the unread ones.
-use Rattle.std.proofs.Common.{◌≡◌, ℕ, ◌+◌, ◌-◌, ◌≤◌, Bool, true, false, List, ◌∷◌, ◌++◌, length, take, drop, refl, sym, ap, ◌∙◌, arith, Option, None, Some, Ok, Err, if◌then◌else◌, length-take-le}
-use Rattle.std.specs.Prelude.{IfSome}
-use Rattle.std.proofs.lemmas.List.{drop-take, drop-append-le}
+use Rattle.std.proofs.Common.{◌≡◌, inl, inr, ℕ, ◌+◌, ◌-◌, ◌<◌, ◌≤◌, ◌||◌, Bool, true, false, List, [], ◌∷◌, ◌++◌, length, take, drop, refl, sym, ap, subst, ◌∙◌, arith, Option, Some, None, Ok, Err, Result, nat_le, min, append_assoc, length-take, length-take-le, take-append-drop}
+use Rattle.std.proofs.lemmas.Bool.Decides.{nat_tests}
+use Rattle.std.proofs.lemmas.List.{drop-take, drop-append-le, drop_all}
+use Rattle.xf_types.specs.declared.status.Reason.{Reason}
+use Rattle.xf_types.specs.declared.status.Reason.TheVariants as reason
 use Rattle.xf_read.specs.declared.reader.Item.{Item}
 use Rattle.xf_read.specs.declared.reader.Unread.{Unread}
 use Rattle.xf_read.specs.Items.{line_item}
+use Rattle.xf_lex.specs.declared.quoting.Quoting.TheVariants.{Bare}
 use Rattle.xf_lex.specs.LogicalLines.{lines_of}
 use Rattle.xf_batch.specs.declared.fault.PhaseFault.{PhaseFault}
 use Rattle.xf_batch.specs.declared.fault.PhaseFault.TheVariants as fault
-use Rattle.xf_batch.specs.Asking.{Asks, GivesJudged, IsBadNext, Takes}
+use Rattle.xf_batch.specs.Asking.{Asks, EndsLine, GivesJudged, IsAllRead, Takes}
 use Rattle.xf_batch.specs.Batch.{Standing, behind, limit, judged, passes_limit}
-use Rattle.xf_batch.specs.Coming.{IsNextLine, ReadsOn, Told, room_of, seen_to_come}
-use Rattle.xf_batch.specs.Reading.{standing, unread_bytes, bytes_to_come}
+use Rattle.xf_batch.specs.Coming.{BreaksOff, EndsLast, Grows, IsLastLine, IsLongNext, IsNextLine, ReadsOn, is_all, room_of, seen_to_come}
+use Rattle.xf_batch.specs.LineEnds.{ends_within, has_feed}
+use Rattle.xf_batch.specs.Reading.{standing, unread_bytes}
+use Rattle.xf_batch.proofs.Lines.{ends_within-take}
 
 -- reading on leaves the place
-standing-read : (old mid : Unread) (first left : Option (List ℕ)) → ReadsOn old mid first left → standing mid ≡ standing old
-standing-read old mid first left on = λ i. record { line = on.line i; before = on.before i }
+standing-read : (old mid : Unread) (first left : Option (List ℕ)) (f0 f1 : ℕ) → Grows old mid first left f0 f1 → standing mid ≡ standing old
+standing-read old mid first left f0 f1 on = λ i. record { line = on.line i; before = on.before i }
 
 -- and what is seen
-seen-read : (old mid : Unread) (first left : List ℕ) → ReadsOn old mid (Some first) (Some left) → seen_to_come mid left ≡ seen_to_come old first
-seen-read old mid first left on =
-    ap (λ k. take (limit + 1 - k) (bytes_to_come mid left)) on.before ∙ ap (take (room_of old)) on.bytes
+seen-read : (old mid : Unread) (first left : Option (List ℕ)) (f0 f1 : ℕ) (on : Grows old mid first left f0 f1) (rest : List ℕ)
+    → seen_to_come mid rest ≡ seen_to_come old (on.piece ++ rest)
+seen-read old mid first left f0 f1 on rest =
+    ap (λ k. take (limit + 1 - k) (unread_bytes mid ++ rest)) on.before
+    ∙ ap (λ (l : List ℕ). take (room_of old) l)
+    (ap (λ (l : List ℕ). l ++ rest) on.bytes ∙ append_assoc (unread_bytes old) on.piece rest)
 
 -- behind a line that was taken
-come-taken : (u new : Unread) (left : List ℕ) (size : ℕ) → Takes u new size → size ≤ length (unread_bytes u)
-    → bytes_to_come new left ≡ drop size (bytes_to_come u left)
-come-taken u new left size takes within =
-    let go : (b : Bool) → (if b then unread_bytes new else (unread_bytes new ++ left)) ≡ drop size (if b then unread_bytes u else (unread_bytes u ++ left)) =
-    λ b. elim b as (λ b. (if b then unread_bytes new else (unread_bytes new ++ left)) ≡ drop size (if b then unread_bytes u else (unread_bytes u ++ left))) [
-      | true ↦ takes.bytes
-      | false ↦ ap (λ (l : List ℕ). l ++ left) takes.bytes ∙ sym (drop-append-le size (unread_bytes u) left within)
-    ]
-    in
-    ap (λ (b : Bool). if b then unread_bytes new else (unread_bytes new ++ left)) takes.ended ∙ go u.ended
-
-seen-taken : (u new : Unread) (left : List ℕ) (size : ℕ) → Takes u new size → size ≤ length (unread_bytes u) → size ≤ room_of u
-    → seen_to_come new left ≡ drop size (seen_to_come u left)
-seen-taken u new left size takes within seen =
+seen-taken : (u new : Unread) (rest : List ℕ) (size : ℕ) → Takes u new size → size ≤ length (unread_bytes u) → size ≤ room_of u
+    → seen_to_come new rest ≡ drop size (seen_to_come u rest)
+seen-taken u new rest size takes within fits =
     let before : new.before ≡ u.before + size =
     ap (λ (s : Standing). s.before) takes.behind ∙ ap (λ n. u.before + n) (length-take-le size (unread_bytes u) within)
     in
-    let room : size + room_of new ≡ room_of u = omega (arith, before, seen) in
-    ap (take (room_of new)) (come-taken u new left size takes within)
-    ∙ sym (drop-take size (room_of new) (bytes_to_come u left))
-    ∙ ap (λ k. drop size (take k (bytes_to_come u left))) room
+    let room : size + room_of new ≡ room_of u = omega (arith, before, fits) in
+    ap (λ (l : List ℕ). take (room_of new) l)
+    (ap (λ (l : List ℕ). l ++ rest) takes.bytes ∙ sym (drop-append-le size (unread_bytes u) rest within))
+    ∙ sym (drop-take size (room_of new) (unread_bytes u ++ rest))
+    ∙ ap (λ k. drop size (take k (unread_bytes u ++ rest))) room
 
--- the lines to come are this one and those behind it
-told-taken : (old mid new : Unread) (first left : Option (List ℕ)) (size : ℕ) → ReadsOn old mid first left → IsNextLine mid left size → Takes mid new size
-    → Told first left (λ f l. lines_of (seen_to_come old f) ≡ take size (unread_bytes mid) ∷ lines_of (seen_to_come new l))
-told-taken old mid new None left size on next takes = tt
-told-taken old mid new (Some first) None size on next takes = absurd on.bytes
-told-taken old mid new (Some first) (Some left) size on next takes =
-    ap lines_of (sym (seen-read old mid first left on))
-    ∙ next.lines
-    ∙ ap (λ (l : List ℕ). take size (unread_bytes mid) ∷ lines_of l) (sym (seen-taken mid new left size takes next.within next.seen))
+-- a line that asks for something doesn't pass the limit
+not_over : (over : Bool) (read : Result Item Reason) (item : Item) → judged over read ≡ Ok item → over ≡ false
+not_over false read item e = refl
+not_over true (Ok asked) item e = absurd cc
+not_over true (Err reason.Long) item e = absurd cc
+not_over true (Err _) item e = absurd cc
+
+-- a line feed ended it only where the end wasn't read
+feed_goes_on : (ended : Bool) (bytes : List ℕ) (size : ℕ) → (ended ≡ true → ends_within Bare bytes ≡ false)
+    → has_feed (take size bytes) ≡ true → ended ≡ false
+feed_goes_on false bytes size last feed = refl
+feed_goes_on true bytes size last feed = absurd (cc (ends_within-take Bare size bytes (last refl), feed))
+
+-- all is taken with the last line, where it doesn't pass the limit
+all_ended : (ended : Bool) (room size length : ℕ) → (ended || nat_le room length) ≡ true → size ≡ min room length → size < room
+    → (ended ≡ true) × (length ≤ size)
+all_ended true room size length all is fits = (refl, omega (arith, is, fits))
+all_ended false room size length all is fits =
+    let more : room ≤ length = grind (arith, nat_tests, all) in absurd (omega (arith, more, is, fits))
+
+EndsLine-taken : (mid new : Unread) (size : ℕ) (item : Item) → EndsLast mid → IsNextLine mid size → Takes mid new size
+    → judged (passes_limit (standing mid) (take size (unread_bytes mid))) (line_item (take size (unread_bytes mid))) ≡ Ok item
+    → EndsLine (take size (unread_bytes mid)) new
+EndsLine-taken mid new size item last next takes read =
+    let line = take size (unread_bytes mid) in
+    elim next.ends as (λ _. EndsLine line new) [
+      | inl feed ↦ inl (feed, takes.ended ∙ feed_goes_on mid.ended (unread_bytes mid) size last feed)
+      | inr ends ↦ let over : passes_limit (standing mid) line ≡ false = not_over (passes_limit (standing mid) line) (line_item line) item read in
+          let count : length line ≡ size = length-take-le size (unread_bytes mid) next.within in
+          let fits : size < room_of mid = grind (arith, nat_tests, over, count) in
+          let all = all_ended mid.ended (room_of mid) size (length (unread_bytes mid)) ends.all
+          (ends.whole ∙ length-take (room_of mid) (unread_bytes mid)) fits in
+          inr (
+            ends.unended,
+            record { ended = takes.ended ∙ all.0; none = takes.bytes ∙ drop_all size (unread_bytes mid) all.1 },
+          )
+    ]
 
 -- a line that asks for something
-pub IsAsked-taken : (old mid new : Unread) (first left : Option (List ℕ)) (size : ℕ) (item : Item) → ReadsOn old mid first left
-    → IsNextLine mid left size → Takes mid new size
+pub IsAsked-taken : (old mid new : Unread) (first left : Option (List ℕ)) (f0 f1 size : ℕ) (item : Item) → Grows old mid first left f0 f1
+    → IsNextLine mid size → Takes mid new size
     → judged (passes_limit (standing mid) (take size (unread_bytes mid))) (line_item (take size (unread_bytes mid))) ≡ Ok item
-    → Asks old new first left (Ok (Some (record { line = old.line; item = item })))
-IsAsked-taken old mid new first left size item on next takes read =
+    → Asks old new first left f0 f1 (Ok (Some (record { line = old.line; item = item })))
+IsAsked-taken old mid new first left f0 f1 size item on next takes read =
     let line = take size (unread_bytes mid) in
-    let place = standing-read old mid first left on in
+    let place = standing-read old mid first left f0 f1 on in
     record {
+      piece = on.piece;
+      read_on = subst (λ (b : Bool). ReadsOn old b on.piece first left f0 f1) (sym takes.ended) on.read_on;
       line = line;
       some = omega (arith, next.some, length-take-le size (unread_bytes mid) next.within);
-      unread = takes.unread;
+      bytes =
+          sym on.bytes ∙ sym (take-append-drop size (unread_bytes mid)) ∙ ap (λ (l : List ℕ). line ++ l) (sym takes.bytes);
       stands = takes.behind ∙ ap (λ (s : Standing). behind s line) place;
       number = refl;
       item = ap (λ (s : Standing). judged (passes_limit s line) (line_item line)) (sym place) ∙ read;
-      end = λ rightly e. on.end rightly (sym takes.ended ∙ e);
-      lines = told-taken old mid new first left size on next takes;
+      ends = EndsLine-taken mid new size item on.last next takes read;
+      lines = λ rest follows.
+          ap lines_of (sym (seen-read old mid first left f0 f1 on rest))
+          ∙ next.lines rest (λ e. follows (takes.ended ∙ e))
+          ∙ ap (λ (l : List ℕ). line ∷ lines_of l) (sym (seen-taken mid new rest size takes next.within next.room));
     }
+
+-- there is none
+pub IsNoLine-read : (old mid : Unread) (first left : Option (List ℕ)) (f0 f1 : ℕ) → Grows old mid first left f0 f1
+    → (mid.ended ≡ true) × (unread_bytes mid ≡ []) → Asks old mid first left f0 f1 (Ok None)
+IsNoLine-read old mid first left f0 f1 on none = record {
+  piece = on.piece;
+  read_on = subst (λ (b : Bool). ReadsOn old b on.piece first left f0 f1) none.0 on.read_on;
+  all = record { ended = none.0; none = none.1 };
+  bytes = sym on.bytes ∙ none.1;
+  stands = standing-read old mid first left f0 f1 on;
+}
 
 -- a bad line
-told-bad : (old mid : Unread) (first left : Option (List ℕ)) (size : ℕ) (why : _) → ReadsOn old mid first left → IsNextLine mid left size
-    → judged (passes_limit (standing mid) (take size (unread_bytes mid))) (line_item (take size (unread_bytes mid))) ≡ Err why
-    → IfSome first (IsBadNext old why)
-told-bad old mid None left size why on next read = tt
-told-bad old mid (Some first) None size why on next read = absurd on.bytes
-told-bad old mid (Some first) (Some left) size why on next read =
-    let line = take size (unread_bytes mid) in
-    record {
-      line = line;
-      rest = lines_of (drop size (seen_to_come mid left));
-      lines = ap lines_of (sym (seen-read old mid first left on)) ∙ next.lines;
-      fault = ap (λ (s : Standing). judged (passes_limit s line) (line_item line)) (sym (standing-read old mid (Some first) (Some left) on)) ∙ read;
-    }
-
-pub Asks-bad : (old mid new : Unread) (first left : Option (List ℕ)) (size : ℕ) (why : PhaseFault) → ReadsOn old mid first left → IsNextLine mid left size
+pub Asks-bad : (old mid new : Unread) (first left : Option (List ℕ)) (f0 f1 size : ℕ) (why : PhaseFault) → Grows old mid first left f0 f1
+    → IsNextLine mid size
     → GivesJudged (Err why) mid.line (judged (passes_limit (standing mid) (take size (unread_bytes mid))) (line_item (take size (unread_bytes mid))))
-    → Asks old new first left (Err why)
-Asks-bad old mid new first left size (fault.Bad line why) on next read =
-    (read.0 ∙ on.line, told-bad old mid first left size why on next read.1)
-Asks-bad old mid new first left size fault.ReadFault on next read = absurd read
-Asks-bad old mid new first left size fault.NoMemory on next read = tt
+    → Asks old new first left f0 f1 (Err why)
+Asks-bad old mid new first left f0 f1 size (fault.Bad line why) on next read =
+    let bytes = take size (unread_bytes mid) in
+    record {
+      piece = on.piece;
+      ended = mid.ended;
+      read_on = on.read_on;
+      number = read.0 ∙ on.line;
+      bad = λ rest follows. record {
+        line = bytes;
+        others = lines_of (drop size (seen_to_come mid rest));
+        lines = ap lines_of (sym (seen-read old mid first left f0 f1 on rest)) ∙ next.lines rest follows;
+        fault =
+            ap (λ (s : Standing). judged (passes_limit s bytes) (line_item bytes)) (sym (standing-read old mid first left f0 f1 on))
+            ∙ read.1;
+      };
+    }
+Asks-bad old mid new first left f0 f1 size fault.ReadFault on next read = absurd read
+Asks-bad old mid new first left f0 f1 size fault.NoMemory on next read = tt
+
+-- one that is long
+pub Asks-long : (old mid : Unread) (first left : Option (List ℕ)) (f0 f1 : ℕ) → Grows old mid first left f0 f1
+    → ((rest : List ℕ) → IsLongNext mid rest) → Asks old mid first left f0 f1 (Err (fault.Bad old.line reason.Long))
+Asks-long old mid first left f0 f1 on long = record {
+  piece = on.piece;
+  ended = mid.ended;
+  read_on = on.read_on;
+  number = refl;
+  bad = λ rest follows.
+      let next = long rest in
+      record {
+        line = next.line;
+        others = next.others;
+        lines = ap lines_of (sym (seen-read old mid first left f0 f1 on rest)) ∙ next.lines;
+        fault = ap (judged (passes_limit (standing old) next.line)) next.long;
+      };
+}
+
+-- no line was found
+pub Asks-broken : (old new : Unread) (first left : Option (List ℕ)) (f0 f1 : ℕ) (why : PhaseFault) → BreaksOff old first left why
+    → Asks old new first left f0 f1 (Err why)
+Asks-broken old new first left f0 f1 (fault.Bad line why) breaks = absurd breaks
+Asks-broken old new first left f0 f1 fault.ReadFault breaks = breaks
+Asks-broken old new first left f0 f1 fault.NoMemory breaks = tt

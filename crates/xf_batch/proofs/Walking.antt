@@ -5,9 +5,9 @@ use Rattle.xf_lex.specs.declared.quoting.Quoting.TheVariants.{Bare}
 use Rattle.xf_lex.specs.Lines.{line_limit}
 use Rattle.xf_lex.specs.Quotes.{after, counted}
 use Rattle.xf_batch.specs.declared.line_scan.LineScan.{LineScan}
-use Rattle.xf_batch.specs.LineEnds.{ends_at, ends_within}
+use Rattle.xf_batch.specs.LineEnds.{ends_at, ends_within, has_feed}
 use Rattle.xf_batch.specs.Scans.{Scans, IsWholeLine, IsLongFront, quoting_behind, counted_in}
-use Rattle.xf_batch.proofs.Lines.{quoting_behind-append, counted_in-append, ends_within-append, line_ends, or_false}
+use Rattle.xf_batch.proofs.Lines.{quoting_behind-append, counted_in-append, ends_within-append, line_ends, or_false, or_last}
 
 -- a piece as far as its next byte
 pub one_further : (front piece : List ℕ) (i : ℕ) → i < length piece
@@ -32,6 +32,11 @@ counted-more front s b scans =
 pub Scans-end : (front : List ℕ) (s : LineScan) (b : ℕ) → Scans front s → ends_at s.quoting b ≡ true → IsWholeLine (front ++ b ∷ [])
 Scans-end front s b scans here =
     λ more. line_ends front more b scans.goes_on (ap (λ q. ends_at q b) (sym scans.quoting) ∙ here)
+
+pub feed-end : (front : List ℕ) (s : LineScan) (b : ℕ) → Scans front s → ends_at s.quoting b ≡ true → has_feed (front ++ b ∷ []) ≡ true
+feed-end front s b scans here =
+    ends_within-append Bare front (b ∷ [])
+    ∙ or_last (ends_within Bare front) (ends_at (quoting_behind Bare front) b) (ap (λ q. ends_at q b) (sym scans.quoting) ∙ here)
 
 -- the line is long with the byte
 pub Scans-long : (front : List ℕ) (s : LineScan) (b : ℕ) → Scans front s → ends_at s.quoting b ≡ false

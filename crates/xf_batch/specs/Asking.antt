@@ -1,5 +1,5 @@
 -- What a logical line asks for where it stands, and what is left behind it.
-use Rattle.std.specs.Prelude.{◌≡◌, ℕ, ◌<◌, true, List, [], ◌∷◌, length, take, drop, Option, None, Some, IfSome, Result, Ok, Err}
+use Rattle.std.specs.Prelude.{◌≡◌, ◌⊎◌, ℕ, ◌<◌, Bool, true, false, List, [], ◌∷◌, ◌++◌, length, take, drop, Option, None, Some, Result, Ok, Err}
 use Rattle.xf_types.specs.declared.status.Reason.{Reason}
 use Rattle.xf_lex.specs.LogicalLines.{lines_of}
 use Rattle.xf_read.specs.declared.reader.Item.{Item}
@@ -9,8 +9,9 @@ use Rattle.xf_batch.specs.declared.fault.PhaseFault.{PhaseFault}
 use Rattle.xf_batch.specs.declared.fault.PhaseFault.TheVariants as fault
 use Rattle.xf_batch.specs.declared.items.Asked.{Asked}
 use Rattle.xf_batch.specs.Batch.{behind, judged, passes_limit}
-use Rattle.xf_batch.specs.Coming.{EndsRightly, Told, seen_to_come}
-use Rattle.xf_batch.specs.Reading.{IsUnread, standing, unread_bytes}
+use Rattle.xf_batch.specs.Coming.{Breaks, ReadsOn, seen_to_come}
+use Rattle.xf_batch.specs.LineEnds.{has_feed}
+use Rattle.xf_batch.specs.Reading.{MayFollow, standing, unread_bytes}
 
 -- what a line asks for, or its fault with the line's number, want of memory aside
 abbrev pub GivesJudged : Result Item PhaseFault → ℕ → Result Item Reason → Type 0
@@ -21,41 +22,59 @@ GivesJudged (Err fault.NoMemory) number read = Unit {0}
 
 -- a line of so many unread bytes was taken
 pub record Takes (old new : Unread) (size : ℕ) : Type 0 where
-  pub unread : IsUnread new
   pub bytes : unread_bytes new ≡ drop size (unread_bytes old)
   pub behind : standing new ≡ behind (standing old) (take size (unread_bytes old))
   pub ended : new.ended ≡ old.ended
 
+-- all was read, and nothing is unread
+pub record IsAllRead (u : Unread) : Type 0 where
+  pub ended : u.ended ≡ true
+  pub none : unread_bytes u ≡ []
+
 -- there is no further line
-pub record IsNoLine (old new : Unread) (left_old left_new : Option (List ℕ)) : Type 0 where
-  pub unread : IsUnread new
+pub record IsNoLine (old new : Unread) (left_old left_new : Option (List ℕ)) (faults_old faults_new : ℕ) : Type 0 where
+  pub piece : List ℕ
+  pub read_on : ReadsOn old true piece left_old left_new faults_old faults_new
+  pub all : IsAllRead new
+  pub bytes : unread_bytes old ++ piece ≡ []
   pub stands : standing new ≡ standing old
-  pub ended : new.ended ≡ true
-  pub end : EndsRightly old new left_old left_new
-  pub lines : Told left_old left_new (λ left now. lines_of (seen_to_come old left) ≡ [])
+
+-- a line feed ended the line, or the input's end, behind which nothing is unread
+abbrev pub EndsLine : List ℕ → Unread → Type 0
+EndsLine line new = ((has_feed line ≡ true) × (new.ended ≡ false)) ⊎ ((has_feed line ≡ false) × IsAllRead new)
 
 -- the next line asks for this, and it was taken
-pub record IsAsked (old new : Unread) (left_old left_new : Option (List ℕ)) (asked : Asked) : Type 0 where
+pub record IsAsked (old new : Unread) (left_old left_new : Option (List ℕ)) (faults_old faults_new : ℕ) (asked : Asked) : Type 0 where
+  pub piece : List ℕ
+  pub read_on : ReadsOn old new.ended piece left_old left_new faults_old faults_new
   pub line : List ℕ
   pub some : 0 < length line
-  pub unread : IsUnread new
+  pub bytes : unread_bytes old ++ piece ≡ line ++ unread_bytes new
   pub stands : standing new ≡ behind (standing old) line
   pub number : asked.line ≡ old.line
   pub item : judged (passes_limit (standing old) line) (line_item line) ≡ Ok asked.item
-  pub end : EndsRightly old new left_old left_new
-  pub lines : Told left_old left_new (λ left now. lines_of (seen_to_come old left) ≡ line ∷ lines_of (seen_to_come new now))
+  pub ends : EndsLine line new
+  pub lines : (rest : List ℕ) → MayFollow new.ended rest → lines_of (seen_to_come old (piece ++ rest)) ≡ line ∷ lines_of (seen_to_come new rest)
 
 -- the next line is bad
-pub record IsBadNext (old : Unread) (why : Reason) (left : List ℕ) : Type 0 where
+pub record IsBadLine (old : Unread) (why : Reason) (rest : List ℕ) : Type 0 where
   pub line : List ℕ
-  pub rest : List (List ℕ)
-  pub lines : lines_of (seen_to_come old left) ≡ line ∷ rest
+  pub others : List (List ℕ)
+  pub lines : lines_of (seen_to_come old rest) ≡ line ∷ others
   pub fault : judged (passes_limit (standing old) line) (line_item line) ≡ Err why
 
--- what is said of the next line, want of memory and faults of the source aside
-abbrev pub Asks : Unread → Unread → Option (List ℕ) → Option (List ℕ) → Result (Option Asked) PhaseFault → Type 0
-Asks old new left_old left_new (Ok None) = IsNoLine old new left_old left_new
-Asks old new left_old left_new (Ok (Some asked)) = IsAsked old new left_old left_new asked
-Asks old new left_old left_new (Err (fault.Bad line why)) = (line ≡ old.line) × IfSome left_old (IsBadNext old why)
-Asks old new left_old left_new (Err fault.ReadFault) = Unit {0}
-Asks old new left_old left_new (Err fault.NoMemory) = Unit {0}
+-- it is, whatever follows what was read
+pub record IsBadNext (old : Unread) (left_old left_new : Option (List ℕ)) (faults_old faults_new line : ℕ) (why : Reason) : Type 0 where
+  pub piece : List ℕ
+  pub ended : Bool
+  pub read_on : ReadsOn old ended piece left_old left_new faults_old faults_new
+  pub number : line ≡ old.line
+  pub bad : (rest : List ℕ) → MayFollow ended rest → IsBadLine old why (piece ++ rest)
+
+-- what is said of the next line, want of memory aside
+abbrev pub Asks : Unread → Unread → Option (List ℕ) → Option (List ℕ) → ℕ → ℕ → Result (Option Asked) PhaseFault → Type 0
+Asks old new left_old left_new faults_old faults_new (Ok None) = IsNoLine old new left_old left_new faults_old faults_new
+Asks old new left_old left_new faults_old faults_new (Ok (Some asked)) = IsAsked old new left_old left_new faults_old faults_new asked
+Asks old new left_old left_new faults_old faults_new (Err (fault.Bad line why)) = IsBadNext old left_old left_new faults_old faults_new line why
+Asks old new left_old left_new faults_old faults_new (Err fault.ReadFault) = Breaks old left_old left_new
+Asks old new left_old left_new faults_old faults_new (Err fault.NoMemory) = Unit {0}

@@ -8,12 +8,14 @@ use Rattle.xf_types.specs.Batch.{Line, One, Send, WorkerLine}
 use Rattle.xf_read.specs.declared.reader.Item.{Item}
 use Rattle.xf_read.specs.declared.reader.Item.TheVariants as item
 use Rattle.xf_read.specs.Items.{line_item}
+use Rattle.std.specs.List.{filter}
 use Rattle.xf_lex.specs.LogicalLines.{lines_of}
-use Rattle.xf_batch.specs.LineEnds.{lines_in}
+use Rattle.xf_read.specs.Facts.{input_limit}
+use Rattle.xf_batch.specs.LineEnds.{lines_in, has_feed}
 
 -- how many bytes the input may have
 abbrev pub limit : ℕ
-limit = 2 ^ 32
+limit = input_limit
 
 -- how many call lines a phase may have
 abbrev pub call_limit : ℕ
@@ -68,6 +70,11 @@ first_line = record { line = 1; before = 0 }
 abbrev pub behind : Standing → List ℕ → Standing
 behind at line = record { line = at.line + lines_in line; before = at.before + length line }
 
+-- behind some of them
+abbrev pub behind_all : Standing → List (List ℕ) → Standing
+behind_all at [] = at
+behind_all at (line ∷ lines) = behind_all (behind at line) lines
+
 -- the line holds the first byte that is one too many
 abbrev pub passes_limit : Standing → List ℕ → Bool
 passes_limit at line = nat_lt limit (at.before + length line)
@@ -106,22 +113,29 @@ pub record BadLine : Type 0 where
   pub line : ℕ
   pub reason : Reason
 
--- the phases that are whole, each the call lines of its workers, and the first bad line, which refuses its phase and all behind it
+-- the phases that are whole, each the call lines of its workers; whether a `sync` ended the last one, behind which nothing came; and
+-- the first bad line, which refuses its phase and all behind it
 pub record Batch : Type 0 where
   pub phases : List (List WorkerLine)
+  pub synced : Bool
   pub bad : Option BadLine
 
--- a batch of one phase
-abbrev pub last_phase : List WorkerLine → Batch
-last_phase calls = record { phases = calls ∷ []; bad = None }
+-- a batch of one phase, with or without a `sync`
+abbrev pub last_phase : Bool → List WorkerLine → Batch
+last_phase synced calls = record { phases = calls ∷ []; synced = synced; bad = None }
 
 -- a phase, and a batch behind it
 abbrev pub phase_before : List WorkerLine → Batch → Batch
-phase_before calls b = record { phases = calls ∷ b.phases; bad = b.bad }
+phase_before calls b = record { phases = calls ∷ b.phases; synced = b.synced; bad = b.bad }
+
+-- a phase, and the batch behind it where the input goes on
+abbrev pub followed : Bool → Bool → List WorkerLine → Batch → Batch
+followed true synced calls rest = phase_before calls rest
+followed false synced calls rest = last_phase synced calls
 
 -- no phase, since this line is bad
 abbrev pub refused_at : ℕ → Reason → Batch
-refused_at n why = record { phases = []; bad = Some (record { line = n; reason = why }) }
+refused_at n why = record { phases = []; synced = false; bad = Some (record { line = n; reason = why }) }
 
 -- the clock's answers after the first one
 abbrev pub later : (ℕ → ℕ) → ℕ → ℕ
@@ -134,31 +148,45 @@ by_effect (GoesOn more) bad on end = on more
 by_effect Ends bad on end = end
 
 -- the batch of the logical lines from this place on, where this much of a phase was read: its k-th phase, counted from 0, has the
--- clock's k-th answer for now; `sync` ends a phase, and the last one ends with the input
+-- clock's k-th answer for now; `sync` ends a phase, and the last one ends with the input. Behind the line feed of a `sync` a further phase
+-- begins; where the input's end stands in its place, none does
 abbrev pub batch_from : (ℕ → ℕ) → Gathered → Standing → List (List ℕ) → Batch
-batch_from answers g at [] = last_phase g.calls
+batch_from answers g at [] = last_phase false g.calls
 batch_from answers g at (line ∷ lines) =
     by_effect (line_effect (answers 0) g at line) (refused_at at.line) (λ more. batch_from answers more (behind at line) lines)
-    (phase_before g.calls (batch_from (later answers) beginning (behind at line) lines))
+    (followed (has_feed line) true g.calls (batch_from (later answers) beginning (behind at line) lines))
+
+-- how many further bytes are looked at: those of the limit, and one that is too many
+abbrev pub room_behind : Standing → ℕ
+room_behind at = limit + 1 - at.before
 
 -- the batch of bytes from this place on: no byte past the first one that is too many is looked at
 unfoldable pub batch_at : (ℕ → ℕ) → Standing → List ℕ → Batch
-batch_at answers at bytes = batch_from answers beginning at (lines_of (take (limit + 1 - at.before) bytes))
+batch_at answers at bytes = batch_from answers beginning at (lines_of (take (room_behind at) bytes))
+
+-- the batch of those lines alone that are whole, whatever bytes follow
+unfoldable pub whole_batch_at : (ℕ → ℕ) → Standing → List ℕ → Batch
+whole_batch_at answers at bytes = batch_from answers beginning at (filter has_feed (lines_of (take (room_behind at) bytes)))
 
 -- the batch of an input by the clock's answers
 abbrev pub batch_of : (ℕ → ℕ) → List ℕ → Batch
 batch_of answers input = batch_at answers first_line input
 
--- a last phase counts where it has a call line
-abbrev pub last_count : List WorkerLine → ℕ
-last_count [] = 0
-last_count (call ∷ calls) = 1
+-- the same from the input's first line on
+abbrev pub whole_batch_of : (ℕ → ℕ) → List ℕ → Batch
+whole_batch_of answers bytes = whole_batch_at answers first_line bytes
+
+-- a last phase counts where a `sync` ended it, or where it has a call line
+abbrev pub last_count : Bool → List WorkerLine → ℕ
+last_count true calls = 1
+last_count false [] = 0
+last_count false (call ∷ calls) = 1
 
 -- how many phases a batch has: each that a `sync` ends, and the last one where it has a call line
-abbrev pub phase_count : List (List WorkerLine) → ℕ
-phase_count [] = 0
-phase_count (calls ∷ []) = last_count calls
-phase_count (calls ∷ next ∷ phases) = 1 + phase_count (next ∷ phases)
+abbrev pub phase_count : Bool → List (List WorkerLine) → ℕ
+phase_count synced [] = 0
+phase_count synced (calls ∷ []) = last_count synced calls
+phase_count synced (calls ∷ next ∷ phases) = 1 + phase_count synced (next ∷ phases)
 
 -- how many call lines
 abbrev pub call_count : List (List WorkerLine) → ℕ

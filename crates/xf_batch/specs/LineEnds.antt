@@ -20,6 +20,10 @@ abbrev pub ends_within : Quoting → List ℕ → Bool
 ends_within m [] = false
 ends_within m (b ∷ bs) = ends_at m b || ends_within (after m b) bs
 
+-- a line feed of its own ends the logical line, and not the input's end: it is whole, whatever follows
+abbrev pub has_feed : List ℕ → Bool
+has_feed line = ends_within Bare line
+
 -- the first logical line of the bytes isn't known to be whole: there is none, or more may follow and it doesn't end within them
 abbrev pub IsUnfinished : List ℕ → Bool → Type 0
 IsUnfinished bytes ended = (bytes ≡ []) ⊎ ((ended ≡ false) × (ends_within Bare bytes ≡ false))

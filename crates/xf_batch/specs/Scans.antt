@@ -1,11 +1,11 @@
 -- What is known of a logical line whose end isn't found yet.
-use Rattle.std.specs.Prelude.{◌≡◌, ℕ, ◌+◌, ◌<◌, ◌≤◌, false, List, [], ◌∷◌, ◌++◌, length, take}
+use Rattle.std.specs.Prelude.{◌≡◌, ℕ, ◌+◌, ◌<◌, ◌≤◌, true, false, List, [], ◌∷◌, ◌++◌, length, take}
 use Rattle.xf_lex.specs.declared.quoting.Quoting.{Quoting}
 use Rattle.xf_lex.specs.declared.quoting.Quoting.TheVariants.{Bare}
 use Rattle.xf_lex.specs.Lines.{line_limit}
 use Rattle.xf_lex.specs.LogicalLines.{lines_of}
 use Rattle.xf_lex.specs.Quotes.{after, counted}
-use Rattle.xf_batch.specs.LineEnds.{ends_within}
+use Rattle.xf_batch.specs.LineEnds.{ends_within, has_feed}
 use Rattle.xf_batch.specs.declared.line_scan.LineScan.{LineScan}
 use Rattle.xf_batch.specs.declared.line_scan.Walked.{Walked}
 use Rattle.xf_batch.specs.declared.line_scan.Walked.TheVariants as walked
@@ -38,6 +38,6 @@ pub record IsLongFront (front : List ℕ) : Type 0 where
 
 -- behind the front of a line, what a further piece brings
 abbrev pub Walks : List ℕ → List ℕ → LineScan → Walked → Type 0
-Walks front piece s (walked.Ends n) = (0 < n) × (n ≤ length piece) × IsWholeLine (front ++ take n piece)
+Walks front piece s (walked.Ends n) = (0 < n) × (n ≤ length piece) × IsWholeLine (front ++ take n piece) × (has_feed (front ++ take n piece) ≡ true)
 Walks front piece s walked.Long = (n : ℕ) × (n ≤ length piece) × IsLongFront (front ++ take n piece)
 Walks front piece s walked.GoesOn = Scans (front ++ piece) s

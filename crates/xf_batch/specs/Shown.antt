@@ -24,11 +24,12 @@ lines_shown tasks = map line_of tasks
 abbrev pub threads_shown : List (Vec Task) → List (List Line)
 threads_shown threads = map (λ tasks. lines_shown tasks.items) threads
 
--- a phase: the call lines of each thread, and whether the input goes on
+-- a phase: the call lines of each thread, whether a `sync` ended it, and whether the input goes on
 pub record PhaseShown : Type 0 where
   pub threads : List (List Line)
+  pub synced : Bool
   pub more : Bool
 
 -- what a phase shows
 abbrev pub phase_shown : Phase → PhaseShown
-phase_shown p = record { threads = threads_shown p.threads.items; more = p.more }
+phase_shown p = record { threads = threads_shown p.threads.items; synced = p.synced; more = p.more }

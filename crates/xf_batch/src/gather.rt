@@ -100,9 +100,10 @@ impl Gather {
         }
     }
 
-    /// The phase that was gathered.
-    pub(crate) fn finish(self, more: bool) -> Phase
+    /// The phase that was gathered. `synced` says that a `sync` ended it.
+    pub(crate) fn finish(self, synced: bool, more: bool) -> Phase
         ensures threads { result.threads ≡ self.threads }
+        ensures synced { result.synced ≡ synced }
         ensures more { result.more ≡ more }
     {
         let Gather {
@@ -111,6 +112,10 @@ impl Gather {
             calls: _,
             lists: _,
         } = self;
-        Phase { threads, more }
+        Phase {
+            threads,
+            synced,
+            more,
+        }
     }
 }

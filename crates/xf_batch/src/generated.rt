@@ -155,6 +155,7 @@ pub fn generate(alloc: Global, seed: u64, phase: u32, workers: u32) -> Result<Ph
     }
     Ok(Phase {
         threads,
+        synced: phase < 4,
         more: phase < 4,
     })
 }

@@ -4,8 +4,8 @@ ghost use Rattle.xf_io.specs.Causes.{Rose};
 ghost use Rattle.xf_read.specs.Items.{line_item};
 ghost use Rattle.xf_batch.specs.Asking.{Asks, GivesJudged, Takes};
 ghost use Rattle.xf_batch.specs.Batch.{judged, passes_limit};
-ghost use Rattle.xf_batch.specs.Coming.{room_of};
-ghost use Rattle.xf_batch.specs.Reading.{IsUnread, standing, unread_bytes};
+ghost use Rattle.xf_batch.specs.Coming.{EndsLast, room_of};
+ghost use Rattle.xf_batch.specs.Reading.{standing, unread_bytes};
 
 use crate::ends::count_lines;
 use crate::fault::PhaseFault;
@@ -48,7 +48,6 @@ fn judge(lines: &mut LineReader, line: &[u8], number: u64, over: bool) -> Result
 
 // Takes so many unread bytes as a line.
 fn take_line(lines: &mut LineReader, unread: &mut Unread, size: usize) -> Result<Item, PhaseFault>
-    requires unread { IsUnread unread.old }
     requires some { 0 < size }
     requires within { size ≤ length (unread_bytes unread.old) }
     requires seen { size ≤ room_of unread.old }
@@ -71,8 +70,8 @@ pub(crate) fn next_item<S: Source>(
     unread: &mut Unread,
     src: &mut S,
 ) -> Result<Option<Asked>, PhaseFault>
-    requires { IsUnread unread.old }
-    ensures item { Asks unread.old unread.new (S.left src.old) (S.left src.new) result }
+    requires { EndsLast unread.old }
+    ensures item { Asks unread.old unread.new (S.left src.old) (S.left src.new) (S.faults src.old) (S.faults src.new) result }
     ensures later { S.faults src.old ≤ S.faults src.new }
     ensures cause { IsErrOf result PhaseFault.ReadFault → Rose (S.faults src.old) (S.faults src.new) }
 {

@@ -1,8 +1,7 @@
 //! The next logical line, in whichever pieces the source gives it.
 ghost use Rattle.std.specs.Prelude.{◌≡◌, ◌≤◌, IfErr, IfOk, IsErrOf};
 ghost use Rattle.xf_io.specs.Causes.{Rose};
-ghost use Rattle.xf_batch.specs.Coming.{Finds, IsOutside, ReadsOn};
-ghost use Rattle.xf_batch.specs.Reading.{IsUnread};
+ghost use Rattle.xf_batch.specs.Coming.{BreaksOff, EndsLast, Finds, Grows};
 
 use crate::fault::PhaseFault;
 use crate::line_scan::{LineScan, Walked};
@@ -20,12 +19,12 @@ pub(crate) enum Next {
 
 /// Finds the next logical line, and reads as far as that takes. Each byte is walked over once, however many reads bring the line.
 pub(crate) fn next_line<S: Source>(unread: &mut Unread, src: &mut S) -> Result<Next, PhaseFault>
-    requires { IsUnread unread.old }
-    ensures on { IfOk result (λ next. ReadsOn unread.old unread.new (S.left src.old) (S.left src.new)) }
-    ensures next { IfOk result (Finds unread.new (S.left src.new)) }
+    requires { EndsLast unread.old }
+    ensures on { IfOk result (λ next. Grows unread.old unread.new (S.left src.old) (S.left src.new) (S.faults src.old) (S.faults src.new)) }
+    ensures next { IfOk result (Finds unread.new) }
     ensures later { S.faults src.old ≤ S.faults src.new }
     ensures cause { IsErrOf result PhaseFault.ReadFault → Rose (S.faults src.old) (S.faults src.new) }
-    ensures outside { IfErr result IsOutside }
+    ensures breaks { IfErr result (BreaksOff unread.old (S.left src.old) (S.left src.new)) }
 {
     let mut scan = LineScan::new();
     let mut walked = 0;

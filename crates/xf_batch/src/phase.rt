@@ -4,10 +4,13 @@ ghost use Rattle.xf_batch.specs.Shown.{lines_shown, threads_shown};
 
 use crate::task::Task;
 
-/// The call lines of a phase by thread, each thread's in the order of the input, and whether the input goes on behind it.
+/// The call lines of a phase by thread, each thread's in the order of the input.
 #[derive(Debug, Drop)]
 pub struct Phase {
     pub threads: Vec<Vec<Task>>,
+    /// A `sync` ended the phase, and not the input's end alone.
+    pub synced: bool,
+    /// The input goes on behind it.
     pub more: bool,
 }
 
@@ -20,7 +23,7 @@ impl Phase {
         &self.threads[thread as usize]
     }
 
-    /// Whether the input goes on: a `sync` ended the phase.
+    /// Whether the input goes on behind the phase: the line feed of a `sync` ended it.
     pub fn more(&self) -> bool
         ensures more { result ≡ self.now.more }
     {

@@ -1,9 +1,10 @@
 //! The unread bytes, and one more piece of the source behind them.
-ghost use Rattle.std.specs.Prelude.{◌≡◌, ℕ, ◌+◌, ◌-◌, ◌≤◌, ◌||◌, false, length, take, drop, nat_le, IfErr, OnOk, IsErrOf};
+ghost use Rattle.std.specs.Prelude.{◌≡◌, ℕ, ◌+◌, ◌-◌, ◌≤◌, false, length, take, drop, IfErr, OnOk, IsErrOf};
+ghost use Rattle.std.specs.Io.KnownBytes.{Keeps};
 ghost use Rattle.xf_io.specs.Causes.{Rose};
 ghost use Rattle.xf_batch.specs.Batch.{limit};
-ghost use Rattle.xf_batch.specs.Coming.{Fills, IsOutside, room_of};
-ghost use Rattle.xf_batch.specs.Reading.{IsUnread, unread_bytes};
+ghost use Rattle.xf_batch.specs.Coming.{Fills, IsOutside, is_all, room_of};
+ghost use Rattle.xf_batch.specs.Reading.{unread_bytes};
 
 use crate::fault::PhaseFault;
 use xf_io::Source;
@@ -14,7 +15,6 @@ pub(crate) const LIMIT: u64 = 1 << 32;
 
 // How many of the bytes to come are looked at: those of the limit, and one that is too many.
 fn room(unread: &Unread) -> usize
-    requires { IsUnread unread.now }
     ensures { result ≡ room_of unread.now }
 {
     (LIMIT + 1 - unread.before) as usize
@@ -22,7 +22,6 @@ fn room(unread: &Unread) -> usize
 
 /// The unread bytes, as far as they are looked at.
 pub(crate) fn front(unread: &Unread) -> &[u8]
-    requires { IsUnread unread.now }
     ensures { result.now ≡ take (room_of unread.now) (unread_bytes unread.now) }
 {
     let bytes = &unread.bytes[unread.taken..];
@@ -36,15 +35,13 @@ pub(crate) fn front(unread: &Unread) -> &[u8]
 
 /// Whether no more bytes are looked at than the unread ones.
 pub(crate) fn is_all(unread: &Unread) -> bool
-    requires { IsUnread unread.now }
-    ensures { result ≡ (unread.now.ended || nat_le (room_of unread.now) (length (unread_bytes unread.now))) }
+    ensures { result ≡ is_all unread.now }
 {
     unread.ended || room(unread) <= unread.bytes.len() - unread.taken
 }
 
 // Lets go of the bytes that lines have taken.
 fn drop_taken(unread: &mut Unread)
-    requires { unread.old.taken ≤ length unread.old.bytes.items }
     ensures bytes { unread.new.bytes.items ≡ unread_bytes unread.old }
     ensures taken { unread.new.taken ≡ 0 }
     ensures line { unread.new.line ≡ unread.old.line }
@@ -61,9 +58,9 @@ fn drop_taken(unread: &mut Unread)
 
 /// Reads one more piece of the source, or its end.
 pub(crate) fn fill<S: Source>(unread: &mut Unread, src: &mut S) -> Result<(), PhaseFault>
-    requires taken { unread.old.taken ≤ length unread.old.bytes.items }
-    requires more { unread.old.ended ≡ false }
+    requires { unread.old.ended ≡ false }
     ensures filled { OnOk result (Fills unread.old unread.new (S.left src.old) (S.left src.new)) }
+    ensures unread { result ≡ Err PhaseFault.ReadFault → Keeps (S.left src.old) (S.left src.new) }
     ensures later { S.faults src.old ≤ S.faults src.new }
     ensures cause { IsErrOf result PhaseFault.ReadFault → Rose (S.faults src.old) (S.faults src.new) }
     ensures outside { IfErr result IsOutside }

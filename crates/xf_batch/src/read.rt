@@ -2,7 +2,7 @@
 ghost use Rattle.std.specs.Prelude.{◌≡◌, ◌≤◌, IfOk, IsErrOf, true};
 ghost use Rattle.std.specs.Io.KnownBytes.{IsAtEnd};
 ghost use Rattle.xf_io.specs.Causes.{Rose};
-ghost use Rattle.xf_batch.specs.Reading.{GivesPhase, HasPassed, IsUnread};
+ghost use Rattle.xf_batch.specs.Reading.{GivesPhase, HasPassed};
 ghost use Rattle.xf_batch.specs.Shown.{phase_shown};
 
 use crate::fault::PhaseFault;
@@ -13,9 +13,8 @@ use std::alloc::Global;
 use xf_io::Source;
 use xf_read::Reader;
 
-/// Reads the next phase, its call lines by the threads of so many workers. `now` is what the clock says, in seconds. A read is made only
-/// where the bytes that were read hold no whole further line; the reader keeps what it hands back unread. After a fault what was taken
-/// from the source is gone.
+/// Reads the next phase, its call lines by the threads of so many workers. `now` is what the clock says, in seconds. After a fault what
+/// was taken from the source is gone.
 pub fn read_phase<S: Source>(
     alloc: Global,
     r: Reader,
@@ -25,9 +24,8 @@ pub fn read_phase<S: Source>(
 ) -> Result<(Phase, Reader), PhaseFault>
     requires some { 1 ≤ workers }
     requires few { workers ≤ 16 }
-    requires unread { IsUnread r.unread }
-    // Where the source tells its bytes: the phase and what is left make up the batch of what was left before.
-    ensures phase { GivesPhase workers now r.unread (S.left src.old) (S.left src.new) result }
+    // The phase and what is left make up the batch of what was left before, and no byte was read that the phase didn't need.
+    ensures phase { GivesPhase workers now r.unread (S.left src.old) (S.left src.new) (S.faults src.old) (S.faults src.new) result }
     ensures passed { IfOk result (λ p. HasPassed workers r.unread p.1.unread (phase_shown p.0)) }
     // The reader says rightly that nothing more is to be read, where it did so before.
     ensures end { (r.unread.ended ≡ true → IsAtEnd (S.left src.old))
@@ -42,10 +40,11 @@ pub fn read_phase<S: Source>(
     let mut gather = Gather::new(alloc, workers)?;
     'lines: while let Some(asked) = next_item(&mut lines, &mut unread, src)? {
         if !gather.put_item(asked.line, asked.item, now)? {
-            let phase = gather.finish(true);
+            // The end was read only where it ends this line too.
+            let phase = gather.finish(true, !unread.ended);
             return Ok((phase, Reader { lines, unread }));
         }
     }
-    let phase = gather.finish(false);
+    let phase = gather.finish(false, false);
     Ok((phase, Reader { lines, unread }))
 }

@@ -1,3 +1,4 @@
+pub mod Facts
 pub mod Selectors
 pub mod Thresholds
 pub mod Marks

@@ -1,6 +1,5 @@
 //! The reader of a batch: its lines, and what it keeps between phases.
-ghost use Rattle.std.specs.Prelude.{◌≡◌, IfOk};
-ghost use Rattle.xf_read.specs.Unread.{IsFresh};
+ghost use Rattle.xf_read.specs.Facts.{IsBetween, IsUnread};
 
 use crate::fault::ReadFault;
 use crate::line_reader::LineReader;
@@ -35,9 +34,12 @@ pub struct Unread {
     pub before: u64,
     /// Nothing more is to be read.
     pub ended: bool,
+    pub ghost facts: { IsUnread bytes.items taken line before },
 }
 
 impl Unread {
+    ghost use Rattle.xf_read.specs.Unread.{IsFresh};
+
     fn new(alloc: Global) -> Unread
         ensures { IsFresh result }
     {
@@ -56,10 +58,13 @@ impl Unread {
 pub struct Reader {
     pub lines: LineReader,
     pub unread: Unread,
+    pub ghost facts: { IsBetween unread.bytes.items unread.taken unread.ended },
 }
 
 impl Reader {
+    ghost use Rattle.std.specs.Prelude.{◌≡◌, IfOk};
     ghost use Rattle.xf_read.specs.Items.{GivesItem, item_of};
+    ghost use Rattle.xf_read.specs.Unread.{IsFresh};
 
     /// A reader before its first line.
     pub fn new(alloc: Global) -> Result<Reader, NoMemory>

@@ -1,7 +1,7 @@
 -- How far a run has come, phase by phase.
 use Rattle.std.proofs.Common.{◌≡◌, ℕ, ◌+◌, Bool, true, false, ◌||◌, List, [], ◌∷◌, ◌++◌, length, Option, None, Some, Ok, refl, sym, ap, ◌∙◌, append-nil, append_assoc, arith}
-use Rattle.std.specs.Io.KnownBytes.{Appends}
-use Rattle.std.proofs.KnownBytes.{Appends-trans, Appends-nil}
+use Rattle.std.specs.Io.KnownBytes.{Appends, Consumes}
+use Rattle.std.proofs.KnownBytes.{Appends-trans, Appends-nil, Consumes-nil, Consumes-trans}
 use Rattle.std.proofs.lemmas.List.{length-append}
 use Rattle.std.proofs.lemmas.List.Folds.{list_any-append}
 use Rattle.xf_types.specs.Batch.{WorkerLine, Line, calls_of_thread}
@@ -9,12 +9,12 @@ use Rattle.xf_types.specs.Codes.{is_refusal_of}
 use Rattle.xf_types.specs.Machine.{Machine}
 use Rattle.xf_types.specs.Steps.{empty}
 use Rattle.xf_read.specs.declared.reader.Unread.{Unread}
-use Rattle.xf_batch.specs.Batch.{Batch, batch_at, batch_of, later, first_line}
-use Rattle.xf_batch.specs.Reading.{bytes_to_come, standing, followed}
+use Rattle.xf_batch.specs.Batch.{Batch, batch_at, batch_of, first_line, followed, later, whole_batch_at, whole_batch_of}
+use Rattle.xf_batch.specs.Reading.{MayFollow, standing, unread_bytes}
 use Rattle.xf_run.specs.Outcome.{ClockAnswers}
 use Rattle.xf_run.specs.declared.run.PhaseRun.{PhaseRun}
 use Rattle.xf_read.specs.Unread.{IsFresh}
-use Rattle.xf_run.specs.Phases.{RunsPhase, RunsNext, IsNext}
+use Rattle.xf_run.specs.Phases.{RunsPhase, IsNext}
 use Rattle.xf_run.specs.Progress.{RunsLines}
 use Rattle.xf_run.specs.Turns.{Turn, turns_text, is_refused}
 use Rattle.xf_run.proofs.Asking.{with_answer, Agree, agree_less, agree_at, asked_none, asked_more}
@@ -29,34 +29,34 @@ pub record RanAll (phases : List (List WorkerLine)) (m : Machine) (refused : Boo
   pub text : Appends old new (turns_text (all_turns turns))
   pub refusals : is_refused (all_turns turns) ≡ refused
 
--- what follows phases
-abbrev pub rest_of : Bool → Batch → Batch
-rest_of true b = b
-rest_of false b = record { phases = []; bad = None }
+-- what follows phases, the last of which a `sync` may have ended
+abbrev pub rest_of : Bool → Bool → Batch → Batch
+rest_of true synced b = b
+rest_of false synced b = record { phases = []; synced = synced; bad = None }
 
 -- phases before a batch
 abbrev pub all_before : List (List WorkerLine) → Batch → Batch
-all_before ps b = record { phases = ps ++ b.phases; bad = b.bad }
+all_before ps b = record { phases = ps ++ b.phases; synced = b.synced; bad = b.bad }
 
 -- the clock's answers after so many
 abbrev pub later_by : ℕ → (ℕ → ℕ) → ℕ → ℕ
 later_by n answers k = answers (k + n)
 
--- by these answers of the clock, the phases so far were answered, and they and what is left make up the batch of the input
-pub record Told (answers : ℕ → ℕ) (asked : ℕ) (input left : List ℕ) (u : Unread) (more : Bool) (m : Machine) (refused : Bool)
+-- by these answers of the clock, the phases so far were answered, and they and what is left make up the batch of the input, whatever
+-- follows the bytes that were taken; and so it is with the lines that are known to be whole
+pub record Told (answers : ℕ → ℕ) (asked : ℕ) (taken : List ℕ) (u : Unread) (more : Bool) (m : Machine) (refused : Bool)
     (old new : Option (List ℕ)) : Type 0 where
   pub phases : List (List WorkerLine)
+  pub synced : Bool
   pub count : asked ≡ length phases
-  pub batch : (given : ℕ → ℕ) → Agree asked given answers
-      → batch_of given input ≡ all_before phases (rest_of more (batch_at (later_by asked given) (standing u) (bytes_to_come u left)))
+  pub goes_on : more ≡ true → u.ended ≡ false
+  pub batch : (given : ℕ → ℕ) (rest : List ℕ) → Agree asked given answers → MayFollow u.ended rest
+      → batch_of given (taken ++ rest)
+      ≡ all_before phases (rest_of more synced (batch_at (later_by asked given) (standing u) (unread_bytes u ++ rest)))
+  pub whole : (given : ℕ → ℕ) (rest : List ℕ) → Agree asked given answers → more ≡ true
+      → whole_batch_of given (taken ++ rest)
+      ≡ all_before phases (whole_batch_at (later_by asked given) (standing u) (unread_bytes u ++ rest))
   pub ran : RanAll phases m refused old new
-
--- the same, where the source tells its bytes
-abbrev pub ToldSoFar : (ℕ → ℕ) → ℕ → Option (List ℕ) → Option (List ℕ) → Unread → Bool → Machine → Bool → Option (List ℕ)
-    → Option (List ℕ) → Type 0
-ToldSoFar answers asked None left u more m refused old new = Unit {0}
-ToldSoFar answers asked (Some input) None u more m refused old new = ⊥
-ToldSoFar answers asked (Some input) (Some left) u more m refused old new = Told answers asked input left u more m refused old new
 
 -- the clock was asked so often, and by its answers the run has come so far
 pub record SoFar (coming later : Option (ℕ → ℕ)) (left_old left_new : Option (List ℕ)) (u : Unread) (more : Bool) (m : Machine)
@@ -64,7 +64,9 @@ pub record SoFar (coming later : Option (ℕ → ℕ)) (left_old left_new : Opti
   pub answers : ℕ → ℕ
   pub asked : ℕ
   pub clock : ClockAnswers coming later asked answers
-  pub told : ToldSoFar answers asked left_old left_new u more m refused old new
+  pub taken : List ℕ
+  pub consumed : Consumes left_old left_new taken
+  pub told : Told answers asked taken u more m refused old new
 
 -- no phase was answered yet
 pub ran_none : (text : Option (List ℕ)) → RanAll [] (empty 4096 8192) false text text
@@ -91,43 +93,53 @@ ran_more ps calls ls m n refused refusal old mid new e r k =
     }
 
 -- a phase, and what follows it
-pub followed-is : (ps : List (List WorkerLine)) (more : Bool) (calls : List WorkerLine) (b : Batch)
-    → all_before ps (followed more calls b) ≡ all_before (ps ++ calls ∷ []) (rest_of more b)
-followed-is ps true calls b = λ i. record { phases = sym (append_assoc ps (calls ∷ []) b.phases) i; bad = b.bad }
-followed-is ps false calls b = λ i. record { phases = sym (append-nil (ps ++ calls ∷ [])) i; bad = None }
+pub followed-is : (ps : List (List WorkerLine)) (more synced : Bool) (calls : List WorkerLine) (b : Batch)
+    → all_before ps (followed more synced calls b) ≡ all_before (ps ++ calls ∷ []) (rest_of more synced b)
+followed-is ps true synced calls b = λ i. record { phases = sym (append_assoc ps (calls ∷ []) b.phases) i; synced = b.synced; bad = b.bad }
+followed-is ps false synced calls b = λ i. record { phases = sym (append-nil (ps ++ calls ∷ [])) i; synced = synced; bad = None }
 
-told_more : (answers : ℕ → ℕ) (asked now : ℕ) (input left rest : List ℕ) (u v : Unread) (more : Bool) (m n : Machine)
-    (refused refusal : Bool) (old mid new : Option (List ℕ)) → Told answers asked input left u true m refused old mid
-    → RunsPhase now u v left rest more m n refusal mid new
-    → Told (with_answer answers asked now) (asked + 1) input rest v more n (refused || refusal) old new
-told_more answers asked now input left rest u v more m n refused refusal old mid new t r = record {
-  phases = t.phases ++ r.read.calls ∷ [];
-  count = let count : length (t.phases ++ r.read.calls ∷ []) ≡ length t.phases + 1 = length-append t.phases (r.read.calls ∷ []) in omega (arith, count, t.count);
-  batch = λ (given : ℕ → ℕ) (agree : Agree (asked + 1) given (with_answer answers asked now)).
-      let before : ℕ → ℕ = later_by asked given in
-      let start : 0 + asked ≡ asked = omega arith in
-      let at : before 0 ≡ now = ap given start ∙ agree_at given answers asked now agree in
-      let shifted : later before ≡ later_by (asked + 1) given =
-      λ i k. given ((let e : (k + 1) + asked ≡ k + (asked + 1) = omega arith in e) i)
-      in
-      t.batch given (agree_less given answers asked now agree)
-      ∙ ap (λ (b : Batch). all_before t.phases b) (r.read.batch before at)
-      ∙ followed-is t.phases more r.read.calls (batch_at (later before) (standing v) (bytes_to_come v rest))
-      ∙ ap (λ (f : ℕ → ℕ). all_before (t.phases ++ r.read.calls ∷ []) (rest_of more (batch_at f (standing v) (bytes_to_come v rest))))
-      shifted;
-  ran = ran_more t.phases r.read.calls r.lines m n refused refusal old mid new r.read.lines t.ran r.ran;
-}
+-- where the input goes on, any bytes may follow
+pub follow_on : (ended : Bool) (rest : List ℕ) → ended ≡ false → MayFollow ended rest
+follow_on ended rest goes_on = λ e. absurd (cc (e, goes_on))
 
--- one phase further, where the source tells its bytes
-told_next : (answers : ℕ → ℕ) (asked now : ℕ) (lo lm ln : Option (List ℕ)) (u : Unread) (run : PhaseRun) (m n : Machine)
-    (refused : Bool) (old mid new : Option (List ℕ)) → ToldSoFar answers asked lo lm u true m refused old mid
-    → RunsNext now u lm ln m n mid new (Ok run)
-    → ToldSoFar (with_answer answers asked now) (asked + 1) lo ln run.reader.unread run.more n (refused || run.refused) old new
-told_next answers asked now None lm ln u run m n refused old mid new t r = tt
-told_next answers asked now (Some input) None ln u run m n refused old mid new t r = absurd t
-told_next answers asked now (Some input) (Some left) None u run m n refused old mid new t r = absurd r
-told_next answers asked now (Some input) (Some left) (Some rest) u run m n refused old mid new t r =
-    told_more answers asked now input left rest u run.reader.unread run.more m n refused run.refused old mid new t r
+-- the next answer, and those behind it
+next_is : (given answers : ℕ → ℕ) (asked now : ℕ) → Agree (asked + 1) given (with_answer answers asked now) → later_by asked given 0 ≡ now
+next_is given answers asked now agree =
+    let start : 0 + asked ≡ asked = omega arith in ap given start ∙ agree_at given answers asked now agree
+
+pub shifted : (given : ℕ → ℕ) (asked : ℕ) → later (later_by asked given) ≡ later_by (asked + 1) given
+shifted given asked = λ i k. given ((let e : (k + 1) + asked ≡ k + (asked + 1) = omega arith in e) i)
+
+told_more : (answers : ℕ → ℕ) (asked now : ℕ) (taken : List ℕ) (lm ln : Option (List ℕ)) (u v : Unread) (more : Bool) (m n : Machine)
+    (refused refusal : Bool) (old mid new : Option (List ℕ)) → Told answers asked taken u true m refused old mid
+    → (r : RunsPhase now u v lm ln more m n refusal mid new)
+    → Told (with_answer answers asked now) (asked + 1) (taken ++ r.read.read) v more n (refused || refusal) old new
+told_more answers asked now taken lm ln u v more m n refused refusal old mid new t r =
+    let calls : List WorkerLine = r.read.calls in
+    let read : List ℕ = r.read.read in
+    record {
+      phases = t.phases ++ calls ∷ [];
+      synced = r.read.synced;
+      count = let count : length (t.phases ++ calls ∷ []) ≡ length t.phases + 1 = length-append t.phases (calls ∷ []) in omega (arith, count, t.count);
+      goes_on = r.read.goes_on;
+      batch = λ (given : ℕ → ℕ) (rest : List ℕ) (agree : Agree (asked + 1) given (with_answer answers asked now)) (follows : MayFollow v.ended rest).
+          ap (λ (l : List ℕ). batch_of given l) (append_assoc taken read rest)
+          ∙ t.batch given (read ++ rest) (agree_less given answers asked now agree) (follow_on u.ended (read ++ rest) (t.goes_on refl))
+          ∙ ap (λ (b : Batch). all_before t.phases b)
+          (r.read.makes.batch (later_by asked given) rest (next_is given answers asked now agree) follows)
+          ∙ followed-is t.phases more r.read.synced calls (batch_at (later (later_by asked given)) (standing v) (unread_bytes v ++ rest))
+          ∙ ap (λ (f : ℕ → ℕ).
+          all_before (t.phases ++ calls ∷ []) (rest_of more r.read.synced (batch_at f (standing v) (unread_bytes v ++ rest))))
+          (shifted given asked);
+      whole = λ (given : ℕ → ℕ) (rest : List ℕ) (agree : Agree (asked + 1) given (with_answer answers asked now)) (on : more ≡ true).
+          ap (λ (l : List ℕ). whole_batch_of given l) (append_assoc taken read rest)
+          ∙ t.whole given (read ++ rest) (agree_less given answers asked now agree) refl
+          ∙ ap (λ (b : Batch). all_before t.phases b)
+          (r.read.makes.whole (later_by asked given) rest (next_is given answers asked now agree) on)
+          ∙ followed-is t.phases true true calls (whole_batch_at (later (later_by asked given)) (standing v) (unread_bytes v ++ rest))
+          ∙ ap (λ (f : ℕ → ℕ). all_before (t.phases ++ calls ∷ []) (whole_batch_at f (standing v) (unread_bytes v ++ rest))) (shifted given asked);
+      ran = ran_more t.phases calls r.lines m n refused refusal old mid new r.read.lines t.ran r.ran;
+    }
 
 -- one phase further
 pub so_far_next : (cl cm cn : Option (ℕ → ℕ)) (lo lm ln : Option (List ℕ)) (u : Unread) (run : PhaseRun) (m n : Machine)
@@ -138,27 +150,42 @@ so_far_next cl cm cn lo lm ln u run m n refused old mid new s k = record {
   answers = with_answer s.answers s.asked k.now;
   asked = s.asked + 1;
   clock = asked_more cl cm cn s.answers s.asked k.now s.clock k.in_range k.asked;
-  told = told_next s.answers s.asked k.now lo lm ln u run m n refused old mid new s.told k.runs;
+  taken = s.taken ++ k.runs.read.read;
+  consumed = Consumes-trans lo lm ln s.taken k.runs.read.read s.consumed k.runs.read.consumed;
+  told = told_more s.answers s.asked k.now s.taken lm ln u run.reader.unread run.more m n refused run.refused old mid new s.told k.runs;
 }
 
 -- the batch of an input before its first line
 pub whole_batch : (given : ℕ → ℕ) (input : List ℕ) (u : Unread) → IsFresh u
-    → batch_of given input ≡ all_before [] (rest_of true (batch_at (later_by 0 given) (standing u) (bytes_to_come u input)))
+    → batch_of given input ≡ batch_at (later_by 0 given) (standing u) (unread_bytes u ++ input)
 whole_batch given input u f =
     let answers : given ≡ later_by 0 given = λ i k. given ((let e : k ≡ k + 0 = omega arith in e) i) in
-    rw (f.line, f.before, f.ended, f.taken, f.bytes) (ap (λ (g : ℕ → ℕ). batch_at g first_line input) answers)
+    rw (f.line, f.before, f.taken, f.bytes) (ap (λ (g : ℕ → ℕ). batch_at g first_line input) answers)
 
-told_none : (left : Option (List ℕ)) (u : Unread) (text : Option (List ℕ)) → IsFresh u
-    → ToldSoFar (λ (k : ℕ). 0) 0 left left u true (empty 4096 8192) false text text
-told_none None u text f = tt
-told_none (Some input) u text f = record {
-  phases = [];
-  count = refl;
-  batch = λ (given : ℕ → ℕ) (agree : Agree 0 given (λ (k : ℕ). 0)). whole_batch given input u f;
-  ran = ran_none text;
-}
+-- and that of its whole lines
+pub whole_lines_batch : (given : ℕ → ℕ) (input : List ℕ) (u : Unread) → IsFresh u
+    → whole_batch_of given input ≡ whole_batch_at (later_by 0 given) (standing u) (unread_bytes u ++ input)
+whole_lines_batch given input u f =
+    let answers : given ≡ later_by 0 given = λ i k. given ((let e : k ≡ k + 0 = omega arith in e) i) in
+    rw (f.line, f.before, f.taken, f.bytes) (ap (λ (g : ℕ → ℕ). whole_batch_at g first_line input) answers)
 
 -- before the first phase
 pub so_far_none : (coming : Option (ℕ → ℕ)) (left : Option (List ℕ)) (u : Unread) (text : Option (List ℕ)) → IsFresh u
     → SoFar coming coming left left u true (empty 4096 8192) false text text
-so_far_none coming left u text f = record { answers = λ (k : ℕ). 0; asked = 0; clock = asked_none coming; told = told_none left u text f }
+so_far_none coming left u text f = record {
+  answers = λ (k : ℕ). 0;
+  asked = 0;
+  clock = asked_none coming;
+  taken = [];
+  consumed = Consumes-nil left;
+  told = record {
+    phases = [];
+    synced = false;
+    count = refl;
+    goes_on = λ on. f.ended;
+    batch = λ (given : ℕ → ℕ) (rest : List ℕ) (agree : Agree 0 given (λ (k : ℕ). 0)) (follows : MayFollow u.ended rest).
+        whole_batch given rest u f;
+    whole = λ (given : ℕ → ℕ) (rest : List ℕ) (agree : Agree 0 given (λ (k : ℕ). 0)) (on : true ≡ true). whole_lines_batch given rest u f;
+    ran = ran_none text;
+  };
+}

@@ -21,11 +21,12 @@ Refuses (BadLine line reason) old new = ⊥
 Refuses ReadFault old new = ⊥
 
 -- what the status says, by the command that the words are
-abbrev pub Does : Option Command → Status → Option (ℕ → ℕ) → Option (ℕ → ℕ) → Option (List ℕ) → Option (List ℕ) → Option (List ℕ) → Type 0
-Does None s coming later left old new = Refuses s old new
-Does (Some command.One) s coming later left old new = IsOutcome s coming later left old new
-Does (Some command.Check) s coming later left old new = IsCheckOutcome s left old new
-Does (Some (command.Gen seed)) s coming later left old new = IsGenOutcome s seed old new
+abbrev pub Does : Option Command → Status → Option (ℕ → ℕ) → Option (ℕ → ℕ) → Option (List ℕ) → Option (List ℕ) → Option (List ℕ)
+    → Option (List ℕ) → Type 0
+Does None s coming later left_old left_new old new = Refuses s old new
+Does (Some command.One) s coming later left_old left_new old new = IsOutcome s coming later left_old left_new old new
+Does (Some command.Check) s coming later left_old left_new old new = IsCheckOutcome s left_old left_new old new
+Does (Some (command.Gen seed)) s coming later left_old left_new old new = IsGenOutcome s seed old new
 
 -- the command reads a batch
 abbrev pub reads_input : Command → Bool

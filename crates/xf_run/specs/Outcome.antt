@@ -1,6 +1,6 @@
 -- What each status of a run says.
 use Rattle.std.specs.Prelude.{◌≡◌, ◌≢◌, ◌⊎◌, ℕ, ◌+◌, ◌<◌, ◌^◌, Bool, true, false, List, [], ◌∷◌, ◌++◌, length, map, Option, None, Some, IfSome}
-use Rattle.std.specs.Io.KnownBytes.{Appends}
+use Rattle.std.specs.Io.KnownBytes.{Appends, Consumes}
 use Rattle.xf_types.specs.declared.call.Receipt.{Receipt}
 use Rattle.xf_types.specs.declared.status.Reason.{Reason}
 use Rattle.xf_types.specs.declared.status.Status.{Status}
@@ -9,7 +9,7 @@ use Rattle.xf_types.specs.Steps.{empty}
 use Rattle.xf_types.specs.Batch.{WorkerLine, IsShuffle, threads_of}
 use Rattle.xf_types.specs.History.{AreLegalHistories, IsUncontended, has_refusal, joined}
 use Rattle.xf_types.specs.Acceptance.{AcceptsOnce}
-use Rattle.xf_batch.specs.Batch.{Batch, batch_of}
+use Rattle.xf_batch.specs.Batch.{Batch, batch_of, whole_batch_of}
 use Rattle.xf_print.specs.Receipts.{text_of}
 use Rattle.xf_print.specs.BadLine.{bad_line_text}
 
@@ -56,12 +56,19 @@ pub record Reports (b : Batch) (asked line : ℕ) (reason : Reason) (old new : O
   pub refused : Bool
   pub answered : Answered b.phases refused (bad_line_text line reason) old new
 
--- the first phases were answered, and nothing of what follows them, a further phase or a bad line
-pub record StopsBetween (b : Batch) (asked : ℕ) (old new : Option (List ℕ)) : Type 0 where
+-- the first phases were answered, and nothing of what follows them, a further phase or a bad line. They are those that were read whole:
+-- of the bytes that were taken, the lines that are whole, whatever follows, are those of the first phases with a `sync` behind each, and a
+-- part of the next phase, without a bad line
+pub record StopsBetween (b : Batch) (answers : ℕ → ℕ) (input : List ℕ) (left : Option (List ℕ)) (asked : ℕ) (old new : Option (List ℕ))
+    : Type 0 where
   pub first : List (List WorkerLine)
   pub rest : List (List WorkerLine)
   pub is_front : first ++ rest ≡ b.phases
   pub follows : (rest ≢ []) ⊎ (b.bad ≢ None)
+  pub taken : List ℕ
+  pub consumed : Consumes (Some input) left taken
+  pub part : List WorkerLine
+  pub whole : whole_batch_of answers taken ≡ record { phases = first ++ part ∷ []; synced = false; bad = None }
   pub asked_each : asked ≡ length first + 1
   pub refused : Bool
   pub answered : Answered first refused [] old new
@@ -94,15 +101,17 @@ pub record StopsWithinReport (b : Batch) (asked : ℕ) (old new : Option (List �
   pub are_histories : AreHistoriesOf b.phases histories
   pub part : PartOf (text_of (joined histories) ++ bad_line_text line reason) old new
 
--- what the status says of the batch and of the text before and after, where the clock was asked so often
-abbrev pub Outcome : Status → Batch → ℕ → Option (List ℕ) → Option (List ℕ) → Type 0
-Outcome status.Done b asked old new = Ends b asked false old new
-Outcome status.Refusals b asked old new = Ends b asked true old new
-Outcome status.Usage b asked old new = ⊥
-Outcome (status.BadLine line reason) b asked old new = Reports b asked line reason old new
-Outcome status.ReadFault b asked old new = StopsBetween b asked old new
-Outcome status.WriteFault b asked old new = StopsWithinText b asked old new ⊎ StopsWithinReport b asked old new
-Outcome status.NoMemory b asked old new = StopsBehindLine b asked old new
+-- what the status says of the batch of the input by the clock's answers, and of the text before and after, where the clock was asked so
+-- often, and the source still has what is left
+abbrev pub Outcome : Status → (ℕ → ℕ) → List ℕ → Option (List ℕ) → ℕ → Option (List ℕ) → Option (List ℕ) → Type 0
+Outcome status.Done answers input left asked old new = Ends (batch_of answers input) asked false old new
+Outcome status.Refusals answers input left asked old new = Ends (batch_of answers input) asked true old new
+Outcome status.Usage answers input left asked old new = ⊥
+Outcome (status.BadLine line reason) answers input left asked old new = Reports (batch_of answers input) asked line reason old new
+Outcome status.ReadFault answers input left asked old new = StopsBetween (batch_of answers input) answers input left asked old new
+Outcome status.WriteFault answers input left asked old new =
+    StopsWithinText (batch_of answers input) asked old new ⊎ StopsWithinReport (batch_of answers input) asked old new
+Outcome status.NoMemory answers input left asked old new = StopsBehindLine (batch_of answers input) asked old new
 
 -- a clock that tells its answers has these left after so many
 abbrev pub HasLeft : Option (ℕ → ℕ) → Option (ℕ → ℕ) → ℕ → Type 0
@@ -122,12 +131,12 @@ IsRunStatus status.Usage = ⊥
 IsRunStatus _ = Unit {0}
 
 -- by the clock's answers, one for each phase that was begun, the outcome is this, where the source tells its bytes
-pub record IsOutcome (s : Status) (coming later : Option (ℕ → ℕ)) (left old new : Option (List ℕ)) : Type 0 where
+pub record IsOutcome (s : Status) (coming later : Option (ℕ → ℕ)) (left_old left_new old new : Option (List ℕ)) : Type 0 where
   pub may_end : IsRunStatus s
   pub answers : ℕ → ℕ
   pub asked : ℕ
   pub clock : ClockAnswers coming later asked answers
-  pub outcome : IfSome left (λ input. Outcome s (batch_of answers input) asked old new)
+  pub outcome : IfSome left_old (λ input. Outcome s answers input left_new asked old new)
 
 -- all was read and answered
 abbrev pub IsEnd : Status → Type 0

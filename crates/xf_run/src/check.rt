@@ -32,12 +32,12 @@ fn count_lines(phase: &Phase) -> u64
 }
 
 /// What a phase counts for: 1 where a `sync` ended it, or where it has a call line.
-fn counted(more: bool, lines: u64) -> u64
-    ensures count { result ≡ (if more || nat_lt 0 lines then 1 else 0) }
-    ensures few { result ≡ 0 ⊎ more ≡ true ⊎ 0 < lines }
+fn counted(synced: bool, lines: u64) -> u64
+    ensures count { result ≡ (if synced || nat_lt 0 lines then 1 else 0) }
+    ensures few { result ≡ 0 ⊎ synced ≡ true ⊎ 0 < lines }
     ensures most { result ≤ 1 }
 {
-    if more || lines > 0 { 1 } else { 0 }
+    if synced || lines > 0 { 1 } else { 0 }
 }
 
 /// Reads all phases, and counts those that a `sync` ends, the last one where it has a call line, and the call lines.
@@ -47,7 +47,7 @@ fn count_batch<S: Source>(
     src: &mut S,
 ) -> Result<Counts, PhaseFault>
     requires fresh { IsFresh reader.unread }
-    ensures counts { CountsBatch (S.left src.old) result }
+    ensures counts { CountsBatch (S.left src.old) (S.left src.new) result }
     ensures end { OnOk result (IsAtEnd (S.left src.new)) }
     ensures later { S.faults src.old ≤ S.faults src.new }
     ensures cause { IsErrOf result PhaseFault.ReadFault → Rose (S.faults src.old) (S.faults src.new) }
@@ -59,7 +59,7 @@ fn count_batch<S: Source>(
         let (phase, rest) = read_phase(alloc, reader, src, 1, 0)?;
         let count = count_lines(&phase);
         more = phase.more();
-        phases += counted(more, count);
+        phases += counted(phase.synced, count);
         lines += count;
         reader = rest;
     }
@@ -97,7 +97,7 @@ fn tell<K: Sink>(alloc: Global, counts: Counts, out: &mut K) -> Status
 /// Reads the batch of the source, runs nothing, and writes how many phases and call lines it has, or its first bad line.
 pub fn run_check<S: Source, K: Sink>(alloc: Global, src: &mut S, out: &mut K) -> Status
     // What the status says of the batch and of the text, where the source tells its bytes.
-    ensures outcome { IsCheckOutcome result (S.left src.old) (K.text out.old) (K.text out.new) }
+    ensures outcome { IsCheckOutcome result (S.left src.old) (S.left src.new) (K.text out.old) (K.text out.new) }
     // Status 0 comes only where the input was read to its end.
     ensures end { IsEnd result → IsAtEnd (S.left src.new) }
     // Faults come only where the count of the object that was handed in rose.

@@ -45,7 +45,7 @@ pub fn top<R: Threads + Wait, S: Source, K: Sink, C: Clock, G: Gate>(
     // What the status says by the command that the words are: of words that are none, of a batch that is run, of one that is
     // read, of an input that is made and run.
     ensures does { Does (command_of (map string_bytes words.now)) result (C.coming clock.old) (C.coming clock.new) (S.left src.old)
-        (K.text out.old) (K.text out.new) }
+        (S.left src.new) (K.text out.old) (K.text out.new) }
     // Statuses 0 and 1 of a batch come only where the input was read to its end.
     ensures end { IfSome (command_of (map string_bytes words.now)) (λ c. reads_input c ≡ true → IsEnd result → IsAtEnd (S.left src.new)) }
     // Faults come only where the count of the object that was handed in rose.

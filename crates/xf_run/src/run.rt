@@ -2,7 +2,6 @@
 ghost use Rattle.std.specs.Prelude.{◌≡◌, ◌≤◌, ◌+◌, ◌*◌, ◌<◌, ◌^◌, IfOk, IfErr, OnOk, IsErrOf, true, false};
 ghost use Rattle.std.specs.Io.KnownBytes.{IsAtEnd};
 ghost use Rattle.xf_io.specs.Causes.{Rose};
-ghost use Rattle.xf_batch.specs.Reading.{IsUnread};
 ghost use Rattle.xf_batch.specs.Batch.{limit};
 ghost use Rattle.xf_run.specs.Outcome.{IsOutcome, IsRunStatus, IsEnd};
 ghost use Rattle.xf_run.specs.Phases.{TakesPhase, IsNext, IsBounded, KeepsUp};
@@ -38,7 +37,6 @@ fn take_phase<S: Source, K: Sink>(
     src: &mut S,
     out: &mut K,
 ) -> Result<(Phase, Reader), Status>
-    requires unread { IsUnread reader.unread }
     ensures phase { TakesPhase now reader.unread (S.left src.old) (S.left src.new) (K.text out.old) (K.text out.new) result }
     ensures same { OnOk result (K.text out.new ≡ K.text out.old) }
     ensures passed { IfOk result (λ p. HasPassed 1 reader.unread p.1.unread (phase_shown p.0)) }
@@ -68,8 +66,7 @@ fn run_next<S: Source, K: Sink, C: Clock>(
     out: &mut K,
     clock: &mut C,
 ) -> Result<PhaseRun, Status>
-    requires unread { IsUnread reader.unread }
-    requires bounded { IsBounded machine.old reader.unread }
+    requires { IsBounded machine.old reader.unread }
     ensures next { IsNext (C.coming clock.old) (C.coming clock.new) reader.unread (S.left src.old) (S.left src.new)
         machine.old machine.new (K.text out.old) (K.text out.new) result }
     ensures keeps { IfOk result (KeepsUp reader.unread machine.new) }
@@ -105,7 +102,8 @@ fn run_phases<S: Source, K: Sink, C: Clock>(
 ) -> Status
     requires start { machine ≡ empty 4096 8192 }
     requires fresh { IsFresh reader.unread }
-    ensures outcome { IsOutcome result (C.coming clock.old) (C.coming clock.new) (S.left src.old) (K.text out.old) (K.text out.new) }
+    ensures outcome { IsOutcome result (C.coming clock.old) (C.coming clock.new) (S.left src.old) (S.left src.new)
+        (K.text out.old) (K.text out.new) }
     ensures end { IsEnd result → IsAtEnd (S.left src.new) }
     ensures read_fault { result ≡ Status.ReadFault → Rose (S.faults src.old) (S.faults src.new) }
     ensures write_fault { result ≡ Status.WriteFault → Rose (K.faults out.old) (K.faults out.new) }
@@ -138,7 +136,8 @@ pub fn run_one<S: Source, K: Sink, C: Clock>(
     clock: &mut C,
 ) -> Status
     // What the status says of the batch and of the text by the clock's answers, where the source tells its bytes.
-    ensures outcome { IsOutcome result (C.coming clock.old) (C.coming clock.new) (S.left src.old) (K.text out.old) (K.text out.new) }
+    ensures outcome { IsOutcome result (C.coming clock.old) (C.coming clock.new) (S.left src.old) (S.left src.new)
+        (K.text out.old) (K.text out.new) }
     // Statuses 0 and 1 come only where the input was read to its end.
     ensures end { IsEnd result → IsAtEnd (S.left src.new) }
     // Faults come only where the count of the object that was handed in rose.

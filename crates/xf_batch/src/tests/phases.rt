@@ -4,7 +4,7 @@ use super::*;
 /// How many workers, a batch, and the text of its phases.
 type Row<'a> = (u32, &'a [u8], &'a str);
 
-const ROWS: [Row<'static>; 14] = [
+const ROWS: [Row<'static>; 16] = [
     (1, b"", "[]"),
     (2, b"\n# nothing\n \t\n", "[ / ]"),
     // Threads are workers modulo their number, and a phase begins with worker 0.
@@ -23,8 +23,14 @@ const ROWS: [Row<'static>; 14] = [
         b"send src 10.1.2.3 dst 192.0.2.1 len 10\nworker 7\ntick 2 # worker 1\n",
         "[1:send 10, 3:tick 2]",
     ),
-    // A phase that a `sync` ends isn't the last one.
-    (1, b"sync", "[][]"),
+    // A further phase begins behind the line feed of a `sync`, and none where the input's end stands in its place.
+    (1, b"sync", "[]"),
+    (1, b"sync\n", "[][]"),
+    (
+        2,
+        b"tick 1\nsync\nworker 1\ntick 2\n sync # x",
+        "[1:tick 1 / ][ / 4:tick 2]",
+    ),
     (
         1,
         b"tick now\nsync\nsync\n tick now\n",

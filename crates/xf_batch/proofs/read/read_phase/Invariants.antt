@@ -5,7 +5,7 @@ use Rattle.xf_batch.proofs.read.read_phase.Given as goal
 
 abbrev pub invariant-lines : goal.invariant-lines
 invariant-lines g l = record {
-  reached : Reached l.workers l.now l.fn.r.unread l.unread (g.S.Source.left l.fn.src) (g.S.Source.left l.src) l.gather;
+  reached : Reached l.workers l.now l.fn.r.unread l.unread (g.S.Source.left l.fn.src) (g.S.Source.left l.src) (g.S.Source.faults l.fn.src) (g.S.Source.faults l.src) l.gather;
   later : g.S.Source.faults l.fn.src ≤ g.S.Source.faults l.src;
 }
 

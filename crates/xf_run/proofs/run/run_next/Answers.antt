@@ -8,14 +8,12 @@ pub returns-in-Ok-clause-keeps : goal.returns-in-Ok-clause-keeps
 returns-in-Ok-clause-keeps g c =
     let few = tasks_few c.tasks.result.now (threads_shown c.in_ok-phase.phase.threads.items) c.tasks.ensures.tasks in
     record {
-      unread = c.in_ok-phase.ensures.passed.unread;
-      within = c.in_ok-phase.ensures.passed.unread.before;
-      whole = λ e. c.in_ok-phase.ensures.passed.whole (sym c.more.ensures.more ∙ e);
-      further = λ e. c.in_ok-phase.ensures.passed.further (sym c.more.ensures.more ∙ e);
+      whole = λ e. c.in_ok-phase.ensures.passed.whole.0 (sym c.more.ensures.more ∙ e);
+      further = λ e. let passed = c.in_ok-phase.ensures.passed in passed.further (passed.synced (sym c.more.ensures.more ∙ e));
       bounded = record {
         numbers =
-            omega (arith, c.in-Ok.ensures.grows.numbers, c.requires.bounded.numbers, c.in_ok-phase.ensures.passed.few, few);
-        sids = omega (arith, c.in-Ok.ensures.grows.sids, c.requires.bounded.sids, c.in_ok-phase.ensures.passed.few, few);
+            omega (arith, c.in-Ok.ensures.grows.numbers, c.requires.numbers, c.in_ok-phase.ensures.passed.few, few);
+        sids = omega (arith, c.in-Ok.ensures.grows.sids, c.requires.sids, c.in_ok-phase.ensures.passed.few, few);
       };
     }
 
@@ -25,7 +23,7 @@ returns-in-Err-Memory-clause-next g c = record {
   in_range = omega arith;
   asked = c.now-now.ensures;
   runs =
-      next_cut _ _ _ _ _ _ c.in_ok-phase.phase c.in_ok-phase.reader _ _ _ _ c.tasks.ensures.tasks c.in_ok-phase.ensures.phase
+      next_cut _ _ _ _ _ c.args.machine.now c.in_ok-phase.phase c.in_ok-phase.reader _ _ _ _ c.tasks.ensures.tasks c.in_ok-phase.ensures.phase
       (c.in-Err-Memory.ensures.memory (rw c.in-Err-Memory.field-0-is refl)) c.in_ok-phase.ensures.same;
 }
 
@@ -35,6 +33,6 @@ returns-clause-next g c = record {
   in_range = omega arith;
   asked = c.now-now.ensures;
   runs =
-      next_broken _ _ _ _ _ _ c.in_ok-phase.phase c.in_ok-phase.reader _ _ _ _ c.tasks.ensures.tasks c.in_ok-phase.ensures.phase
+      next_broken _ _ _ _ _ c.args.machine.now c.in_ok-phase.phase c.in_ok-phase.reader _ _ _ _ c.tasks.ensures.tasks c.in_ok-phase.ensures.phase
       (c.in-Err-Write.ensures.write (rw c.in-Err-Write.field-0-is refl)) c.in_ok-phase.ensures.same;
 }

@@ -6,13 +6,7 @@ use Rattle.xf_run.proofs.run.run_phases.Goals as goal
 pub phases-init : goal.phases-init
 phases-init g c = record {
   so_far = rw (c.requires.start) (so_far_none _ _ c.args.reader.unread _ c.requires.fresh);
-  unread = record {
-    taken = omega (arith, c.requires.fresh.taken);
-    line = omega (arith, c.requires.fresh.line, c.requires.fresh.before);
-    before = omega (arith, c.requires.fresh.before);
-  };
-  within = omega (arith, c.requires.fresh.before);
-  bounded = rw (c.requires.start, c.requires.fresh.before) (record { numbers = omega arith; sids = omega arith });
+  bounded = rw (c.requires.start) (record { numbers = omega arith; sids = omega arith });
   whole = λ e. absurd (cc e);
   end = λ e. absurd (cc (e, c.requires.fresh.ended));
   read = omega arith;
@@ -24,8 +18,6 @@ phases-preserved g c = record {
   so_far =
       so_far_next _ _ _ _ _ _ c.phases.reader.unread c.in-Ok.run' c.phases.machine c.run_next.new.machine c.phases.refused _ _ _
       (rw (c.phases-test.true) at c.phases.invariant.so_far) c.in-Ok.ensures.next;
-  unread = c.in-Ok.ensures.keeps.unread;
-  within = c.in-Ok.ensures.keeps.within;
   bounded = c.in-Ok.ensures.keeps.bounded;
   whole = c.in-Ok.ensures.keeps.whole;
   end = c.in-Ok.ensures.end c.phases.invariant.end;
@@ -41,7 +33,9 @@ returns-in-Err-clause-outcome g c =
 pub returns-then-refused-clause-outcome : goal.returns-then-refused-clause-outcome
 returns-then-refused-clause-outcome g c =
     refused_all _ _ _ _ c.phases.reader.unread c.phases.machine _ _ (rw (c.phases-test.false, c.if-refused.true) at c.phases.invariant.so_far)
+    (c.phases.invariant.end (c.phases.invariant.whole c.phases-test.false))
 
 pub returns-clause-outcome : goal.returns-clause-outcome
 returns-clause-outcome g c =
     done_all _ _ _ _ c.phases.reader.unread c.phases.machine _ _ (rw (c.phases-test.false, c.if-refused.false) at c.phases.invariant.so_far)
+    (c.phases.invariant.end (c.phases.invariant.whole c.phases-test.false))

@@ -1,7 +1,6 @@
 use Rattle.std.proofs.Common.{◌≡◌, ◌≤◌, ◌+◌, ◌-◌, true, false, if◌then◌else◌}
 use Rattle.std.specs.Io.KnownBytes.{IsAtEnd}
 use Rattle.xf_batch.specs.Batch.{limit}
-use Rattle.xf_batch.specs.Reading.{IsUnread}
 use Rattle.xf_run.specs.Phases.{IsBounded}
 use Rattle.xf_run.proofs.SoFar.{SoFar}
 use Rattle.xf_run.proofs.run.run_phases.Given as goal
@@ -9,8 +8,6 @@ use Rattle.xf_run.proofs.run.run_phases.Given as goal
 abbrev pub invariant-phases : goal.invariant-phases
 invariant-phases g l = record {
   so_far : SoFar (g.C.Clock.coming l.fn.clock) (g.C.Clock.coming l.clock) (g.S.Source.left l.fn.src) (g.S.Source.left l.src) l.reader.unread l.more l.machine l.refused (g.K.Sink.text l.fn.out) (g.K.Sink.text l.out);
-  unread : IsUnread l.reader.unread;
-  within : l.reader.unread.before ≤ limit;
   bounded : IsBounded l.machine l.reader.unread;
   whole : l.more ≡ false → l.reader.unread.ended ≡ true;
   end : l.reader.unread.ended ≡ true → IsAtEnd (g.S.Source.left l.src);

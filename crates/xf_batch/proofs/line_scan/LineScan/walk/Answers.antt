@@ -2,8 +2,9 @@ use Rattle.std.proofs.Common.{ℕ, ◌+◌, ◌<◌, List, ◌++◌, take, get_o
 use Rattle.xf_lex.specs.Lines.{line_limit}
 use Rattle.xf_lex.specs.Quotes.{counted}
 use Rattle.xf_batch.specs.declared.line_scan.LineScan.{LineScan}
+use Rattle.xf_batch.specs.LineEnds.{has_feed}
 use Rattle.xf_batch.specs.Scans.{Scans, IsWholeLine, IsLongFront}
-use Rattle.xf_batch.proofs.Walking.{one_further, Scans-end, Scans-long, Scans-more}
+use Rattle.xf_batch.proofs.Walking.{one_further, feed-end, Scans-end, Scans-long, Scans-more}
 use Rattle.xf_batch.proofs.line_scan.LineScan.walk.Goals as goal
 
 pub returns-then-ends_at : goal.returns-then-ends_at
@@ -16,6 +17,8 @@ returns-then-ends_at c = λ front before.
       omega arith,
       subst IsWholeLine (sym (one_further front piece i c.loop-i-test.true))
           (Scans-end (front ++ take i piece) c.loop-i.self b scans (sym c.ends_at.ensures ∙ c.if-ends_at.true)),
+      ap has_feed (one_further front piece i c.loop-i-test.true)
+          ∙ feed-end (front ++ take i piece) c.loop-i.self b scans (sym c.ends_at.ensures ∙ c.if-ends_at.true),
     )
 
 pub returns-then-self-gt-LINE_LIMIT : goal.returns-then-self-gt-LINE_LIMIT
