@@ -1,5 +1,5 @@
 -- Where a batch begins, a phase follows or a bad line.
-use Rattle.std.proofs.Common.{◌≡◌, ◌≢◌, ◌⊎◌, inl, inr, ℕ, Bool, true, false, List, [], ◌∷◌, None, Some}
+use Rattle.std.proofs.Common.{◌≢◌, ◌⊎◌, inl, inr, ℕ, Bool, true, false, List, [], ◌∷◌, None, Some}
 use Rattle.xf_types.specs.Batch.{WorkerLine}
 use Rattle.xf_batch.specs.Batch.{Batch, BadLine, Effect, IsBad, GoesOn, Ends, Gathered, Standing, batch_at, batch_from, beginning, behind, by_effect, later, line_effect, followed, refused_at}
 use Rattle.xf_batch.specs.LineEnds.{has_feed}

@@ -14,3 +14,5 @@ pub mod Counting
 pub mod Doing
 pub mod Hearing
 pub mod Generating
+pub mod Rooms
+pub mod Tallying

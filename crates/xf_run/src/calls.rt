@@ -1,6 +1,7 @@
 //! The calls of one line, made one after another. Their replies are told.
 ghost use Rattle.std.specs.Prelude.{◌≡◌, ◌≤◌, ◌<◌, ◌^◌, length, IfOk, OnOk};
 ghost use Rattle.xf_types.specs.Batch.{Send, path_of};
+ghost use Rattle.xf_run.specs.Heard.{HasRoom, HearsAtMost};
 ghost use Rattle.xf_run.specs.Progress.{GrowsBy, MakesCall, MakesLine, MakesOutputs};
 ghost use Rattle.xf_batch.specs.Shown.{line_of};
 
@@ -17,9 +18,11 @@ fn make_call<T: Teller>(
 ) -> Result<Reply, NoMemory>
     requires numbers { machine.old.shown.next_number < 2 ^ 63 }
     requires sids { machine.old.shown.next_sid < 2 ^ 63 }
+    requires room { HasRoom (T.heard teller.old) at.line 1 }
     ensures ok { IfOk result
         (λ reply. MakesCall machine.old machine.new at call.now reply (T.heard teller.old) (T.heard teller.new)) }
     ensures grows { OnOk result (GrowsBy 1 machine.old.shown machine.new.shown) }
+    ensures few_heard { OnOk result (HearsAtMost 1 (T.heard teller.old) (T.heard teller.new)) }
 {
     let reply = machine.step(call);
     teller.tell(at, &reply)?;
@@ -48,9 +51,11 @@ fn make_outputs<T: Teller>(
     requires few { length hops.now ≤ 6 }
     requires numbers { machine.old.shown.next_number ≤ 2 ^ 62 }
     requires sids { machine.old.shown.next_sid ≤ 2 ^ 62 }
+    requires room { HasRoom (T.heard teller.old) line 6 }
     ensures ok { IfOk result
         (λ refused. MakesOutputs machine.old machine.new line len hops.now refused (T.heard teller.old) (T.heard teller.new)) }
     ensures grows { OnOk result (GrowsBy 6 machine.old.shown machine.new.shown) }
+    ensures few_heard { OnOk result (HearsAtMost 6 (T.heard teller.old) (T.heard teller.new)) }
 {
     let mut refused = false;
     let mut part = 1;
@@ -74,9 +79,11 @@ fn make_send<T: Teller>(
 ) -> Result<bool, NoMemory>
     requires numbers { machine.old.shown.next_number < 2 ^ 62 }
     requires sids { machine.old.shown.next_sid < 2 ^ 62 }
+    requires room { HasRoom (T.heard teller.old) line 7 }
     ensures ok { IfOk result
         (λ refused. MakesLine machine.old machine.new (Send line flow len) refused (T.heard teller.old) (T.heard teller.new)) }
     ensures grows { OnOk result (GrowsBy 7 machine.old.shown machine.new.shown) }
+    ensures few_heard { OnOk result (HearsAtMost 7 (T.heard teller.old) (T.heard teller.new)) }
 {
     let at = Place { line, part: 0 };
     let reply = make_call(machine, at, &Call::Flow(flow), teller)?;
@@ -92,9 +99,11 @@ pub fn make_line<T: Teller>(
 ) -> Result<bool, NoMemory>
     requires numbers { machine.old.shown.next_number < 2 ^ 62 }
     requires sids { machine.old.shown.next_sid < 2 ^ 62 }
+    requires room { HasRoom (T.heard teller.old) task.now.line 7 }
     ensures ok { IfOk result
         (λ refused. MakesLine machine.old machine.new (line_of task.now) refused (T.heard teller.old) (T.heard teller.new)) }
     ensures grows { OnOk result (GrowsBy 7 machine.old.shown machine.new.shown) }
+    ensures few_heard { OnOk result (HearsAtMost 7 (T.heard teller.old) (T.heard teller.new)) }
 {
     match &task.job {
         Job::One(call) => {

@@ -1,6 +1,7 @@
 //! A large input, made from a number and run on one thread.
-ghost use Rattle.std.specs.Prelude.{◌≡◌, ◌≤◌, ◌<◌, ◌^◌, ◌+◌, ◌*◌, ◌∷◌, [], length, get_or, IfOk, OnOk};
+ghost use Rattle.std.specs.Prelude.{◌≡◌, ◌≤◌, ◌<◌, ◌^◌, ◌+◌, ◌*◌, ◌∷◌, [], length, get_or, All, IfOk, OnOk};
 ghost use Rattle.xf_io.specs.Causes.{Rose};
+ghost use Rattle.xf_batch.specs.Generated.{line_number};
 ghost use Rattle.xf_batch.specs.Shown.{lines_shown, threads_shown};
 ghost use Rattle.xf_tally.specs.Text.{numbers_text};
 ghost use Rattle.xf_run.specs.Generated.{CountsLines, CountsPhase, IsGenOutcome, Summarizes};
@@ -18,10 +19,13 @@ use xf_types::{NoMemory, Status};
 /// Answers call lines in their order, counts the replies, and says whether one is a refusal.
 fn count_tasks(machine: &mut Plain, tasks: &[Task], tally: &mut Tally) -> Result<bool, NoMemory>
     requires few { length tasks.now ≤ 2 ^ 33 }
+    requires lines { All (λ l. line_number l ≤ 2 ^ 20) (lines_shown tasks.now) }
+    requires room { tally.old.calls + 7 * length tasks.now ≤ 2 ^ 40 }
     requires numbers { machine.old.shown.next_number ≤ 2 ^ 61 }
     requires sids { machine.old.shown.next_sid ≤ 2 ^ 61 }
     ensures ok { IfOk result
         (λ refused. CountsLines machine.old machine.new (lines_shown tasks.now) refused tally.old tally.new) }
+    ensures calls { OnOk result (tally.new.calls ≤ tally.old.calls + 7 * length tasks.now) }
     ensures grows { OnOk result (GrowsBy (7 * length tasks.now) machine.old.shown machine.new.shown) }
 {
     let mut refused = false;
@@ -36,11 +40,14 @@ fn count_tasks(machine: &mut Plain, tasks: &[Task], tally: &mut Tally) -> Result
 fn count_phase(machine: &mut Plain, phase: &Phase, tally: &mut Tally) -> Result<bool, NoMemory>
     requires one { length phase.now.threads.items ≡ 1 }
     requires few { length (get_or (threads_shown phase.now.threads.items) 0 []) ≤ 6004 }
-    requires lines { tally.old.lines ≤ 2 ^ 40 }
+    requires places { All (λ l. line_number l ≤ 2 ^ 20) (get_or (threads_shown phase.now.threads.items) 0 []) }
+    requires lines { tally.old.lines ≤ 2 ^ 39 }
+    requires calls { tally.old.calls ≤ 2 ^ 39 }
     requires numbers { machine.old.shown.next_number ≤ 2 ^ 61 }
     requires sids { machine.old.shown.next_sid ≤ 2 ^ 61 }
     ensures ok { IfOk result (λ refused. CountsPhase machine.old machine.new
         (get_or (threads_shown phase.now.threads.items) 0 []) refused tally.old tally.new) }
+    ensures calls { OnOk result (tally.new.calls ≤ tally.old.calls + 7 * 6004) }
     ensures grows { OnOk result (GrowsBy (7 * 6004) machine.old.shown machine.new.shown) }
 {
     let tasks = phase.tasks(0);

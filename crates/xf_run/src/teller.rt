@@ -1,6 +1,6 @@
 //! What hears the replies of a run.
 ghost use Rattle.std.specs.Prelude.{◌≡◌, OnOk};
-ghost use Rattle.xf_run.specs.Heard.{Heard, Sums, Text, hear};
+ghost use Rattle.xf_run.specs.Heard.{HasRoom, Heard, Sums, Text, hear};
 
 use xf_print::print_answer;
 use xf_tally::Tally;
@@ -13,6 +13,7 @@ pub trait Teller {
 
     /// Hears one reply more, of the call at this place.
     fn tell(&mut self, at: Place, reply: &Reply) -> Result<(), NoMemory>
+        requires { HasRoom (heard self.old) at.line 1 }
         ensures { OnOk result (heard self.new ≡ hear (heard self.old) at reply.now) };
 }
 
@@ -25,19 +26,11 @@ impl Teller for Vec<u8> {
     }
 }
 
-// The numbers of a tally have room for so many replies, and for lines up to this number.
-const ROOM: u64 = 1 << 40;
-
-const LINES: u64 = 1 << 20;
-
-/// The numbers of a summary. A reply past what they have room for is refused; no input comes near it.
+/// The numbers of a summary. They take no memory.
 impl Teller for Tally {
     ghost heard = { λ tally. Sums tally };
 
     fn tell(&mut self, at: Place, reply: &Reply) -> Result<(), NoMemory> {
-        if at.line > LINES || self.calls() >= ROOM {
-            return Err(NoMemory);
-        }
         self.add(at.line, reply);
         Ok(())
     }

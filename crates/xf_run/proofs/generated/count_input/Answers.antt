@@ -12,6 +12,7 @@ phases-init c = record {
   so_far = rw (c.in_ok-machine.ensures) (gen_none c.args.seed c.new-tally.result c.new-tally.ensures.summary);
   first = omega arith;
   lines = omega (arith, c.new-tally.ensures.no_lines);
+  calls = omega (arith, c.new-tally.ensures.no_calls);
   numbers = rw (c.in_ok-machine.ensures) (omega arith);
   sids = rw (c.in_ok-machine.ensures) (omega arith);
 }
@@ -37,6 +38,7 @@ phases-preserved c =
       first = omega arith;
       lines =
           omega (arith, c.in_ok-refusal.ensures.ok.lines, few, c.in_ok-made.ensures.small, c.phases.invariant.lines, c.phases.invariant.first);
+      calls = omega (arith, c.in_ok-refusal.ensures.calls, c.phases.invariant.calls, c.phases.invariant.first);
       numbers =
           omega (arith, c.in_ok-refusal.ensures.grows.numbers, c.phases.invariant.numbers, c.phases.invariant.first);
       sids = omega (arith, c.in_ok-refusal.ensures.grows.sids, c.phases.invariant.sids, c.phases.invariant.first);

@@ -7,6 +7,7 @@ invariant-phases l = record {
   so_far : GenSoFar l.seed (l.phase - 1) l.machine l.refused l.tally;
   first : 1 ≤ l.phase;
   lines : l.tally.lines ≤ 6004 * (l.phase - 1);
+  calls : l.tally.calls ≤ 42028 * (l.phase - 1);
   numbers : l.machine.shown.next_number ≤ 42028 * (l.phase - 1) + 1;
   sids : l.machine.shown.next_sid ≤ 42028 * (l.phase - 1) + 1;
 }
