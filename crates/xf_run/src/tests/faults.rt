@@ -60,7 +60,7 @@ fn sources_that_fail(rt: HostRuntime) -> Result<(), Fail> {
                 Status::ReadFault,
             )
         },
-        // the end is read once, though phases come behind it
+        // the end that ends a `sync` is read once, and no phase is begun behind it
         Case {
             read_fails: &[3],
             ..one(&[POLICY, SYNC, b"sync"], b"1: ok index 9\n", Status::Done)
