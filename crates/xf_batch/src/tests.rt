@@ -11,7 +11,7 @@ use std::fmt::Write;
 use std::test::Fail;
 use xf_io::{Failed, MemSource, Source};
 use xf_read::Reader;
-use xf_types::Call;
+use xf_types::{Call, NoMemory};
 
 /// Gives at most so many bytes at the first read, and at most so many at each further one.
 #[derive(Drop)]
@@ -76,6 +76,15 @@ fn write_phase(text: &mut String, phase: &Phase, workers: u32) -> Result<(), All
     text.push(']')
 }
 
+/// A reader before its first line, where so many bytes of the input are taken to be read already.
+fn reader_behind(alloc: Global, before: u64) -> Result<Reader, NoMemory>
+    requires { before ≤ limit }
+{
+    let Reader { lines, mut unread } = Reader::new(alloc)?;
+    unread.before = before;
+    Ok(Reader { lines, unread })
+}
+
 /// All phases of a source, or those before a fault, and the fault. The clock says 100 in the first phase, 101 in the next, and so on.
 /// So many bytes of the input are taken to be read already.
 fn read_all<S: Source>(
@@ -89,8 +98,7 @@ fn read_all<S: Source>(
     requires before { before ≤ limit }
 {
     let mut text = String::new(alloc);
-    let mut reader = Reader::new(alloc)?;
-    reader.unread.before = before;
+    let mut reader = reader_behind(alloc, before)?;
     for now in 100..200 {
         match read_phase(alloc, reader, src, workers, now) {
             Ok((phase, next)) => {
