@@ -1,4 +1,4 @@
-//! Worked rows of the definitions. Nothing stands on this crate.
+//! Worked rows of the definitions, and a test of the types' copies. Nothing stands on this crate.
 #![tactic(auto)]
 
 mod rows;
@@ -8,3 +8,6 @@ pub use rows::{
     policy_filter_rows, policy_rows, refused_batch_rows, refused_history_rows, state_filter_rows,
     state_rows, threshold_rows, window_rows,
 };
+
+#[cfg(test)]
+mod tests;
