@@ -104,17 +104,17 @@ limits =
 
 template : Same template-eq.eq-value.it
 template =
-    told (λ t. (t.src, (t.dst, (t.proto, (t.spi, (t.mode, (t.reqid, t.level)))))))
+    told (λ t. (t.src, (t.dst, (t.spi, (t.reqid, (t.proto, (t.mode, t.level)))))))
     (λ a b h. λ i. let x = h i in record {
       src = x.0;
       dst = x.1.0;
-      proto = x.1.1.0;
-      spi = x.1.1.1.0;
-      mode = x.1.1.1.1.0;
-      reqid = x.1.1.1.1.1.0;
+      spi = x.1.1.0;
+      reqid = x.1.1.1.0;
+      proto = x.1.1.1.1.0;
+      mode = x.1.1.1.1.1.0;
       level = x.1.1.1.1.1.1;
     })
-    (more addr (more addr (more proto (more num (more mode (more num level))))))
+    (more addr (more addr (more num (more num (more proto (more mode level))))))
 
 templates : Same templates-eq.eq-value.it
 templates = lists template
@@ -133,20 +133,20 @@ events = lists event
 
 policy_spec : Same policy_spec-eq.eq-value.it
 policy_spec =
-    told (λ p. (p.dir, (p.ptype, (p.sel, (p.mark, (p.if_id, (p.priority, (p.action, (p.index, (p.limits, p.templates))))))))))
+    told (λ p. (p.sel, (p.templates, (p.limits, (p.mark, (p.if_id, (p.priority, (p.index, (p.dir, (p.ptype, p.action))))))))))
     (λ a b h. λ i. let x = h i in record {
-      dir = x.0;
-      ptype = x.1.0;
-      sel = x.1.1.0;
+      sel = x.0;
+      templates = x.1.0;
+      limits = x.1.1.0;
       mark = x.1.1.1.0;
       if_id = x.1.1.1.1.0;
       priority = x.1.1.1.1.1.0;
-      action = x.1.1.1.1.1.1.0;
-      index = x.1.1.1.1.1.1.1.0;
-      limits = x.1.1.1.1.1.1.1.1.0;
-      templates = x.1.1.1.1.1.1.1.1.1;
+      index = x.1.1.1.1.1.1.0;
+      dir = x.1.1.1.1.1.1.1.0;
+      ptype = x.1.1.1.1.1.1.1.1.0;
+      action = x.1.1.1.1.1.1.1.1.1;
     })
-    (more dir (more ptype (more selector (more mark (more num (more num (more action (more num (more limits templates)))))))))
+    (more selector (more templates (more limits (more mark (more num (more num (more num (more dir (more ptype action)))))))))
 
 policy : Same policy-eq.eq-value.it
 policy =

@@ -32,15 +32,15 @@ pub enum Level {
     Use,
 }
 
-/// What one state of a path has to be.
+/// What one state of a path has to be. Its fields stand by their size, so that no room is lost between them.
 #[derive(Clone, Copy, PartialEq, Eq, Default, Debug)]
 pub struct Template {
     pub src: Addr,
     pub dst: Addr,
-    pub proto: Proto,
     pub spi: u32,
-    pub mode: Mode,
     pub reqid: u32,
+    pub proto: Proto,
+    pub mode: Mode,
     pub level: Level,
 }
 
@@ -75,19 +75,19 @@ pub struct Limits {
     pub packet_hard: Option<u64>,
 }
 
-/// A policy as it is asked for. An index of 0 asks for none.
+/// A policy as it is asked for. An index of 0 asks for none. Its fields stand by their size, so that a call is small.
 #[derive(Clone, PartialEq, Eq, Debug, Drop)]
 pub struct PolicySpec {
-    pub dir: Dir,
-    pub ptype: Ptype,
     pub sel: Selector,
+    pub templates: Templates,
+    pub limits: Limits,
     pub mark: Mark,
     pub if_id: u32,
     pub priority: u32,
-    pub action: Action,
     pub index: u32,
-    pub limits: Limits,
-    pub templates: Templates,
+    pub dir: Dir,
+    pub ptype: Ptype,
+    pub action: Action,
 }
 
 /// A policy as it is listed.
