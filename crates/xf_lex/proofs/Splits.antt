@@ -1,5 +1,6 @@
 -- The words of some bytes are taken one after another.
-use Rattle.std.proofs.Common.{◌≡◌, ℕ, ◌+◌, ◌<◌, suc, Bool, true, false, refl, sym, ap, ◌∙◌, arith, List, [], ◌∷◌, ◌++◌, append_assoc, append-nil, length, take, drop, Some, None}
+use Rattle.std.proofs.Common.{◌≡◌, ℕ, ◌+◌, ◌<◌, suc, Bool, true, false, refl, sym, ap, ◌∙◌, arith, List, [], ◌∷◌, ◌++◌, append_assoc, append-nil, length, take, drop, eqb, Some, None}
+use Rattle.std.proofs.lemmas.Bool.Decides.{nat_tests}
 use Rattle.xf_lex.specs.Lexing.{Word}
 use Rattle.xf_lex.specs.Plain.{is_gap, gap_count, word_count, split_from, split}
 
@@ -51,5 +52,26 @@ no_word (b ∷ bs) none =
       | false ↦ λ isnt.
           let some : suc (length bs) ≡ 0 = rw isnt at none in
           absurd (omega (arith, some))
+    ]
+    in go (is_gap b) refl
+
+-- a count that goes on with the other
+both_more : (n m : ℕ) → eqb (1 + n) (suc m) ≡ eqb n m
+both_more n m = grind (arith, nat_tests)
+
+-- neither is none
+neither_none : (n m : ℕ) → eqb 0 (suc n) ≡ eqb (suc m) 0
+neither_none n m = grind (arith, nat_tests)
+
+-- no word is left exactly where there are gaps alone
+pub gaps_alone : (bytes : List ℕ) → eqb (gap_count bytes) (length bytes) ≡ eqb (length (split bytes)) 0
+gaps_alone [] = refl
+gaps_alone (b ∷ bs) =
+    let Claim : Type 0 = eqb (gap_count (b ∷ bs)) (length (b ∷ bs)) ≡ eqb (length (split (b ∷ bs))) 0 in
+    let go : (t : Bool) → is_gap b ≡ t → Claim =
+    λ t. elim t as (λ t. is_gap b ≡ t → Claim) [
+      | true ↦ λ is. rw is (both_more (gap_count bs) (length bs) ∙ gaps_alone bs)
+      | false ↦ λ isnt.
+          rw (isnt, begun_first (b ∷ []) bs) (neither_none (length bs) (length (split (drop (word_count bs) bs))))
     ]
     in go (is_gap b) refl

@@ -1,5 +1,5 @@
 //! The words of a line, one after another.
-ghost use Rattle.std.specs.Prelude.{◌≡◌, ◌∷◌, ◌≤◌, ◌<◌, [], length, MatchOption};
+ghost use Rattle.std.specs.Prelude.{◌≡◌, ◌==◌, ◌∷◌, ◌≤◌, [], length, MatchOption};
 ghost use Rattle.xf_lex.specs.Plain.{gap_count, word_count};
 
 /// The words of a line that are still to come: those of a plain line where they stand, or those that were listed.
@@ -37,6 +37,16 @@ fn word_count(bytes: &[u8]) -> usize
 
 impl<'a> Words<'a> {
     ghost use Rattle.xf_lex.specs.Plain.{left};
+
+    /// Whether no word is left.
+    pub fn is_empty(&self) -> bool
+        ensures { result ≡ (length (left self.now) == 0) }
+    {
+        match *self {
+            Words::Plain(bytes) => gap_count(bytes) == bytes.len(),
+            Words::Listed(words) => words.is_empty(),
+        }
+    }
 
     /// The next word, if one is left.
     pub fn next(&mut self) -> Option<&'a [u8]>
