@@ -1,7 +1,7 @@
 //! The reader of lines.
 ghost use Rattle.std.specs.Prelude.{◌≡◌};
 ghost use Rattle.xf_lex.specs.Gives.{Gives};
-ghost use Rattle.xf_lex.specs.Shown.{shown};
+ghost use Rattle.xf_lex.specs.Plain.{left};
 ghost use Rattle.xf_read.specs.Items.{words_item, line_item};
 
 use crate::call::read_asked;
@@ -9,7 +9,7 @@ use crate::fault::ReadFault;
 use crate::reader::Item;
 use std::alloc::Global;
 use xf_grammar::{HeadTable, Progress, first_in, read_head, tables_in};
-use xf_lex::{LineFault, Scan};
+use xf_lex::{LineFault, Scan, Words};
 
 /// A reader of lines. Its lists serve one line after another, so that a usual line takes no memory.
 #[derive(Debug, Drop)]
@@ -17,6 +17,20 @@ pub struct LineReader {
     alloc: Global,
     scan: Scan,
     progress: Progress,
+}
+
+// The item of a line's words.
+#[tactic(auto, unfolding(crate::specs::Items::words_item))]
+fn read_item(progress: &mut Progress, words: Words) -> Result<Item, LineFault>
+    ensures { Gives (λ item. item) result (words_item (left words.entry)) }
+{
+    if words.is_empty() {
+        return Ok(Item::Nothing);
+    }
+    let mut words = words;
+    let head = read_head(HeadTable::Start, &mut words)?;
+    progress.read_fields(tables_in(head), first_in(head), words)?;
+    Ok(read_asked(head, &progress.fields)?)
 }
 
 impl LineReader {
@@ -31,27 +45,12 @@ impl LineReader {
         }
     }
 
-    // The item of a line's words.
-    #[tactic(auto, unfolding(crate::specs::Items::words_item))]
-    fn read_item(&mut self) -> Result<Item, LineFault>
-        ensures { Gives (λ item. item) result (words_item (shown self.old.scan.lexer.words.items)) }
-    {
-        let words = self.scan.lexer.words.as_slice();
-        if words.is_empty() {
-            return Ok(Item::Nothing);
-        }
-        let (head, rest) = read_head(HeadTable::Start, words)?;
-        self.progress
-            .read_fields(tables_in(head), first_in(head), rest)?;
-        Ok(read_asked(head, &self.progress.fields)?)
-    }
-
     #[tactic(auto, unfolding(crate::specs::Items::line_item))]
     fn read_line(&mut self, bytes: &[u8]) -> Result<Item, LineFault>
         ensures { Gives (λ item. item) result (line_item bytes.now) }
     {
-        self.scan.read_words(self.alloc, bytes)?;
-        self.read_item()
+        let words = self.scan.words(self.alloc, bytes)?;
+        read_item(&mut self.progress, words)
     }
 
     /// Reads one logical line, whole or as far as it takes to be long, with or without its line feed. `number` is that of
