@@ -1,5 +1,5 @@
 -- What is said of a phase that ends, or is refused.
-use Rattle.std.proofs.Common.{◌≡◌, inl, inr, ℕ, ◌+◌, ◌<◌, ◌≤◌, Bool, true, false, not, List, [], ◌∷◌, ◌++◌, map, length, sum, drop, take, Option, Ok, Err, refl, sym, ap, ◌∙◌, arith, append_assoc, length-drop}
+use Rattle.std.proofs.Common.{◌≡◌, inl, inr, ℕ, ◌+◌, ◌<◌, ◌≤◌, Bool, true, false, not, List, [], ◌∷◌, ◌++◌, map, length, sum, drop, take, Option, Result, Ok, Err, refl, sym, ap, ◌∙◌, arith, append_assoc, length-drop}
 use Rattle.std.specs.List.{concat, filter}
 use Rattle.std.proofs.KnownBytes.{Consumes-trans}
 use Rattle.std.proofs.Math.Seq.{take-nil}
@@ -7,6 +7,8 @@ use Rattle.std.proofs.lemmas.List.Elements.{filter-append}
 use Rattle.xf_types.specs.declared.status.Reason.{Reason}
 use Rattle.xf_types.specs.Batch.{Line, threads_of}
 use Rattle.xf_lex.specs.LogicalLines.{lines_of}
+use Rattle.xf_grammar.specs.declared.row.Field.{Field}
+use Rattle.xf_read.specs.declared.reader.Item.{Item}
 use Rattle.xf_read.specs.declared.reader.Unread.{Unread}
 use Rattle.xf_read.specs.Facts.{IsBetween}
 use Rattle.xf_read.specs.Items.{line_item}
@@ -149,15 +151,15 @@ on_by_feed : (line : List ℕ) (new : Unread) → EndsLine line new → has_feed
 on_by_feed line new (inl (feed, on)) = rw (feed, on) refl
 on_by_feed line new (inr (none, all)) = rw (none, all.ended) refl
 
-pub given-sync : (workers now : ℕ) (old u : Unread) (first left now_left : Option (List ℕ)) (f0 f1 f2 : ℕ) (s next : Gather) (asked : Asked) (new : Unread) (phase : Phase)
-    → (r : Reached workers now old u first left f0 f1 s) → IsAsked u new left now_left f1 f2 asked
-    → Puts workers asked.line r.gathered (effect_of now r.gathered asked.line (Ok asked.item)) next (Ok false)
+pub given-sync : (workers now : ℕ) (old u : Unread) (first left now_left : Option (List ℕ)) (f0 f1 f2 : ℕ) (s next : Gather) (asked : Asked) (read_as : Result Item Reason) (new : Unread) (phase : Phase)
+    → (r : Reached workers now old u first left f0 f1 s) → IsAsked u new left now_left f1 f2 asked read_as
+    → Puts workers asked.line r.gathered (effect_of now r.gathered asked.line read_as) next (Ok false)
     → IsPhaseOf next true (not new.ended) phase
     → ReadsPhase workers now old new first now_left f0 f2 (phase_shown phase)
 unfolding batch_at whole_batch_at
-given-sync workers now old u first left now_left f0 f1 f2 s next asked new phase r a puts is =
-    let ended = ends workers asked.line r.gathered (effect_of now r.gathered asked.line (Ok asked.item)) next puts in
-    let came = Came-more old u new first left now_left f1 f2 r.lines r.read asked r.came a in
+given-sync workers now old u first left now_left f0 f1 f2 s next asked read_as new phase r a puts is =
+    let ended = ends workers asked.line r.gathered (effect_of now r.gathered asked.line read_as) next puts in
+    let came = Came-more old u new first left now_left f1 f2 r.lines r.read asked read_as r.came a in
     record {
       read = r.read ++ a.piece;
       has_read = record {
@@ -174,7 +176,7 @@ given-sync workers now old u first left now_left f0 f1 f2 s next asked new phase
             let lines = lines_of (seen_to_come new rest) in
             let after = batch_from (later answers) beginning (standing new) lines in
             ap (λ (ls : List (List ℕ)). batch_from answers beginning (standing old) ls) (came.parts rest follows)
-            ∙ leaves-line now old u new left now_left f1 f2 r.lines lines asked r.gathered Ends answers r.leaves a ended.0 e
+            ∙ leaves-line now old u new left now_left f1 f2 r.lines lines asked read_as r.gathered Ends answers r.leaves a ended.0 e
             ∙ ap (λ (b : Bool). followed b true r.gathered.calls after) (on_by_feed a.line new a.ends ∙ sym is.more)
             ∙ ap (λ (b : Bool). followed phase.more b r.gathered.calls after) (sym is.synced);
         whole = λ answers rest e more.
@@ -185,18 +187,18 @@ given-sync workers now old u first left now_left f0 f1 f2 s next asked new phase
             (ap (λ (ls : List (List ℕ)). filter has_feed ls) (came.parts rest (follow_any new.ended rest goes_on))
             ∙ filter-append has_feed (r.lines ++ a.line ∷ []) lines
             ∙ ap (λ (ls : List (List ℕ)). ls ++ filter has_feed lines) (came.whole goes_on))
-            ∙ leaves-line now old u new left now_left f1 f2 r.lines (filter has_feed lines) asked r.gathered Ends answers r.leaves a ended.0 e
+            ∙ leaves-line now old u new left now_left f1 f2 r.lines (filter has_feed lines) asked read_as r.gathered Ends answers r.leaves a ended.0 e
             ∙ ap (λ (b : Bool). followed b true r.gathered.calls after) (feed_of_line a.line new a.ends goes_on);
       };
     }
 
-pub HasPassed-sync : (workers now : ℕ) (old u new : Unread) (first left now_left : Option (List ℕ)) (f0 f1 f2 : ℕ) (s next : Gather) (asked : Asked) (phase : Phase)
-    → 0 < workers → (r : Reached workers now old u first left f0 f1 s) → IsAsked u new left now_left f1 f2 asked
-    → Puts workers asked.line r.gathered (effect_of now r.gathered asked.line (Ok asked.item)) next (Ok false)
+pub HasPassed-sync : (workers now : ℕ) (old u new : Unread) (first left now_left : Option (List ℕ)) (f0 f1 f2 : ℕ) (s next : Gather) (asked : Asked) (read_as : Result Item Reason) (phase : Phase)
+    → 0 < workers → (r : Reached workers now old u first left f0 f1 s) → IsAsked u new left now_left f1 f2 asked read_as
+    → Puts workers asked.line r.gathered (effect_of now r.gathered asked.line read_as) next (Ok false)
     → IsPhaseOf next true (not new.ended) phase → HasPassed workers old new (phase_shown phase)
-HasPassed-sync workers now old u new first left now_left f0 f1 f2 s next asked phase some r a puts is =
-    let ended = ends workers asked.line r.gathered (effect_of now r.gathered asked.line (Ok asked.item)) next puts in
-    let further = passed-line u new left now_left f1 f2 asked a in
+HasPassed-sync workers now old u new first left now_left f0 f1 f2 s next asked read_as phase some r a puts is =
+    let ended = ends workers asked.line r.gathered (effect_of now r.gathered asked.line read_as) next puts in
+    let further = passed-line u new left now_left f1 f2 asked read_as a in
     record {
       each = each-shown workers next r.gathered true (not new.ended) phase is ended.1;
       whole = (λ off. on_of new.ended (sym is.more ∙ off), λ e. is.more ∙ ap not e);
@@ -218,14 +220,14 @@ no_source workers n g (IsBad other) s puts = puts
 no_source workers n g (GoesOn more) s puts = puts
 no_source workers n g Ends s puts = puts
 
-pub given-refused : (workers now : ℕ) (old u new : Unread) (first left now_left : Option (List ℕ)) (f0 f1 f2 : ℕ) (s next : Gather) (asked : Asked) (why : PhaseFault)
-    → (r : Reached workers now old u first left f0 f1 s) → IsAsked u new left now_left f1 f2 asked
-    → Puts workers asked.line r.gathered (effect_of now r.gathered asked.line (Ok asked.item)) next (Err why)
+pub given-refused : (workers now : ℕ) (old u new : Unread) (first left now_left : Option (List ℕ)) (f0 f1 f2 : ℕ) (s next : Gather) (asked : Asked) (read_as : Result Item Reason) (why : PhaseFault)
+    → (r : Reached workers now old u first left f0 f1 s) → IsAsked u new left now_left f1 f2 asked read_as
+    → Puts workers asked.line r.gathered (effect_of now r.gathered asked.line read_as) next (Err why)
     → GivesPhase workers now old first now_left f0 f2 (Err why)
 unfolding batch_at
-given-refused workers now old u new first left now_left f0 f1 f2 s next asked (fault.Bad line why) r a puts =
-    let is = refused workers asked.line r.gathered (effect_of now r.gathered asked.line (Ok asked.item)) next line why puts in
-    let came = Came-more old u new first left now_left f1 f2 r.lines r.read asked r.came a in
+given-refused workers now old u new first left now_left f0 f1 f2 s next asked read_as (fault.Bad line why) r a puts =
+    let is = refused workers asked.line r.gathered (effect_of now r.gathered asked.line read_as) next line why puts in
+    let came = Came-more old u new first left now_left f1 f2 r.lines r.read asked read_as r.came a in
     record {
       read = r.read ++ a.piece;
       ended = new.ended;
@@ -233,12 +235,12 @@ given-refused workers now old u new first left now_left f0 f1 f2 s next asked (f
       end = came.end;
       batch = λ answers rest e follows.
           ap (λ (ls : List (List ℕ)). batch_from answers beginning (standing old) ls) (came.parts rest follows)
-          ∙ leaves-line now old u new left now_left f1 f2 r.lines (lines_of (seen_to_come new rest)) asked r.gathered (IsBad why) answers r.leaves a is.1 e
+          ∙ leaves-line now old u new left now_left f1 f2 r.lines (lines_of (seen_to_come new rest)) asked read_as r.gathered (IsBad why) answers r.leaves a is.1 e
           ∙ ap (λ n. refused_at n why) (sym (is.0 ∙ a.number));
     }
-given-refused workers now old u new first left now_left f0 f1 f2 s next asked fault.ReadFault r a puts =
-    absurd (no_source workers asked.line r.gathered (effect_of now r.gathered asked.line (Ok asked.item)) next puts)
-given-refused workers now old u new first left now_left f0 f1 f2 s next asked fault.NoMemory r a puts = tt
+given-refused workers now old u new first left now_left f0 f1 f2 s next asked read_as fault.ReadFault r a puts =
+    absurd (no_source workers asked.line r.gathered (effect_of now r.gathered asked.line read_as) next puts)
+given-refused workers now old u new first left now_left f0 f1 f2 s next asked read_as fault.NoMemory r a puts = tt
 
 -- ---- a line that is bad by itself, or wasn't read
 
@@ -247,11 +249,11 @@ bad-effect : (now : ℕ) (answers : ℕ → ℕ) (g : Gathered) (u : Unread) (li
 bad-effect now answers g u line others why e fault =
     batch_from-effect answers now g (standing u) line others (IsBad why) e (ap (λ r. effect_of now g u.line r) fault)
 
-pub given-fault : (workers now : ℕ) (old u new : Unread) (first left now_left : Option (List ℕ)) (f0 f1 f2 : ℕ) (s : Gather) (why : PhaseFault)
-    → (r : Reached workers now old u first left f0 f1 s) → Asks u new left now_left f1 f2 (Err why)
+pub given-fault : (workers now : ℕ) (old u new : Unread) (first left now_left : Option (List ℕ)) (f0 f1 f2 : ℕ) (s : Gather) (fields : List Field) (why : PhaseFault)
+    → (r : Reached workers now old u first left f0 f1 s) → Asks u new left now_left f1 f2 fields (Err why)
     → GivesPhase workers now old first now_left f0 f2 (Err why)
 unfolding batch_at
-given-fault workers now old u new first left now_left f0 f1 f2 s (fault.Bad line why) r bad = record {
+given-fault workers now old u new first left now_left f0 f1 f2 s fields (fault.Bad line why) r bad = record {
   read = r.read ++ bad.piece;
   ended = bad.ended;
   consumed = Consumes-trans first left now_left r.read bad.piece r.came.consumed bad.read_on.consumed;
@@ -268,10 +270,10 @@ given-fault workers now old u new first left now_left f0 f1 f2 s (fault.Bad line
       ∙ bad-effect now answers r.gathered u next.line next.others why e next.fault
       ∙ ap (λ n. refused_at n why) (sym bad.number);
 }
-given-fault workers now old u new first left now_left f0 f1 f2 s fault.ReadFault r breaks = record {
+given-fault workers now old u new first left now_left f0 f1 f2 s fields fault.ReadFault r breaks = record {
   read = r.read ++ breaks.piece;
   consumed = Consumes-trans first left now_left r.read breaks.piece r.came.consumed breaks.consumed;
   goes_on = unended _ old.ended u.ended r.came.still breaks.goes_on;
   is_open = IsOpen-at now old u first left r.lines r.read breaks.piece r.gathered r.came r.leaves breaks.goes_on breaks.unfinished;
 }
-given-fault workers now old u new first left now_left f0 f1 f2 s fault.NoMemory r breaks = tt
+given-fault workers now old u new first left now_left f0 f1 f2 s fields fault.NoMemory r breaks = tt

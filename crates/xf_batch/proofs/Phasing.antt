@@ -1,5 +1,5 @@
 -- How far the reading of a phase has come.
-use Rattle.std.proofs.Common.{◌≡◌, ◌⊎◌, inl, inr, ℕ, ◌+◌, ◌<◌, ◌≤◌, Bool, true, false, List, [], ◌∷◌, ◌++◌, length, drop, count_by, Option, Ok, cond, refl, sym, ap, subst, ◌∙◌, arith, append-nil, append_assoc}
+use Rattle.std.proofs.Common.{◌≡◌, ◌⊎◌, inl, inr, ℕ, ◌+◌, ◌<◌, ◌≤◌, Bool, true, false, List, [], ◌∷◌, ◌++◌, length, drop, count_by, Option, Result, Ok, Err, cond, refl, sym, ap, subst, ◌∙◌, arith, append-nil, append_assoc}
 use Rattle.std.specs.List.{concat, filter}
 use Rattle.std.specs.Io.KnownBytes.{Consumes, IsAtEnd}
 use Rattle.std.proofs.KnownBytes.{Consumes-nil, Consumes-trans}
@@ -8,6 +8,7 @@ use Rattle.std.proofs.lemmas.List.{length_push}
 use Rattle.std.proofs.lemmas.List.Elements.{filter-append}
 use Rattle.std.proofs.lemmas.List.Folds.{concat-append}
 use Rattle.xf_types.specs.declared.call.Call.TheVariants as call
+use Rattle.xf_types.specs.declared.status.Reason.{Reason}
 use Rattle.xf_types.specs.declared.status.Reason.TheVariants as reason
 use Rattle.xf_types.specs.Batch.{Line, One, Send}
 use Rattle.xf_lex.specs.declared.quoting.Quoting.TheVariants.{Bare}
@@ -98,10 +99,11 @@ Reached-start workers now old left faults s gathers last = record {
 -- ---- by what a line does
 
 -- what a line asks for does this
-pub line_effect-is : (now : ℕ) (g : Gathered) (u : Unread) (line : List ℕ) (item : Item) (number : ℕ) → number ≡ u.line
-    → judged (passes_limit (standing u) line) (line_item line) ≡ Ok item
-    → line_effect now g (standing u) line ≡ effect_of now g number (Ok item)
-line_effect-is now g u line item number e read = ap (λ r. effect_of now g u.line r) read ∙ ap (λ n. effect_of now g n (Ok item)) (sym e)
+pub line_effect-is : (now : ℕ) (g : Gathered) (u : Unread) (line : List ℕ) (read : Result Item Reason) (number : ℕ)
+    → number ≡ u.line
+    → judged (passes_limit (standing u) line) (line_item line) ≡ read
+    → line_effect now g (standing u) line ≡ effect_of now g number read
+line_effect-is now g u line read number e is = ap (λ r. effect_of now g u.line r) is ∙ ap (λ n. effect_of now g n read) (sym e)
 
 -- how many call lines a phase has then
 calls_after : Effect → ℕ
@@ -127,9 +129,11 @@ calls_after-effect now g n item.TickNow = calls_after-call g (One n (call.Tick n
 calls_after-effect now g n (item.One c) = calls_after-call g (One n c)
 calls_after-effect now g n (item.Send flow len) = calls_after-call g (Send n flow len)
 
-few-more : (now : ℕ) (g more : Gathered) (n : ℕ) (item : Item) → effect_of now g n (Ok item) ≡ GoesOn more → length more.calls ≤ length g.calls + 1
+few-more : (now : ℕ) (g more : Gathered) (n : ℕ) (read : Result Item Reason) → effect_of now g n read ≡ GoesOn more
+    → length more.calls ≤ length g.calls + 1
 unfolding calls_after
-few-more now g more n item e = omega (arith, calls_after-effect now g n item, ap calls_after e)
+few-more now g more n (Ok item) e = omega (arith, calls_after-effect now g n item, ap calls_after e)
+few-more now g more n (Err why) e = absurd cc
 
 -- the phase goes on
 goes_on : (workers n : ℕ) (g : Gathered) (effect : Effect) (s : Gather) → Puts workers n g effect s (Ok true)
@@ -200,10 +204,10 @@ EndsLast-line : (line : List ℕ) (new : Unread) → EndsLine line new → EndsL
 EndsLast-line line new (inl (feed, on)) = λ e. absurd (cc (e, on))
 EndsLast-line line new (inr (none, all)) = λ e. ap (ends_within Bare) all.none
 
-pub Came-more : (old u new : Unread) (first left now_left : Option (List ℕ)) (f0 f1 : ℕ) (lines : List (List ℕ)) (read : List ℕ) (asked : Asked)
-    → Came old u first left lines read → (a : IsAsked u new left now_left f0 f1 asked)
+pub Came-more : (old u new : Unread) (first left now_left : Option (List ℕ)) (f0 f1 : ℕ) (lines : List (List ℕ)) (read : List ℕ) (asked : Asked) (read_as : Result Item Reason)
+    → Came old u first left lines read → (a : IsAsked u new left now_left f0 f1 asked read_as)
     → Came old new first now_left (lines ++ a.line ∷ []) (read ++ a.piece)
-Came-more old u new first left now_left f0 f1 lines read asked came a =
+Came-more old u new first left now_left f0 f1 lines read asked read_as came a =
     record {
       consumed = Consumes-trans first left now_left read a.piece came.consumed a.read_on.consumed;
       still = λ e.
@@ -281,42 +285,42 @@ still-more now old u ended first left now_left f0 f1 f2 lines read piece g came 
 -- ---- a line that the phase goes on behind
 
 -- how far a line goes
-pub passed-line : (u new : Unread) (left now_left : Option (List ℕ)) (f0 f1 : ℕ) (asked : Asked) → IsAsked u new left now_left f0 f1 asked
+pub passed-line : (u new : Unread) (left now_left : Option (List ℕ)) (f0 f1 : ℕ) (asked : Asked) (read_as : Result Item Reason) → IsAsked u new left now_left f0 f1 asked read_as
     → u.before < new.before
-passed-line u new left now_left f0 f1 asked a = omega (arith, ap (λ (s : Standing). s.before) a.stands, a.some)
+passed-line u new left now_left f0 f1 asked read_as a = omega (arith, ap (λ (s : Standing). s.before) a.stands, a.some)
 
 -- behind the lines so far, the next line does this
-pub leaves-line : (now : ℕ) (old u new : Unread) (left now_left : Option (List ℕ)) (f0 f1 : ℕ) (lines more : List (List ℕ)) (asked : Asked) (g : Gathered) (effect : Effect)
-    (answers : ℕ → ℕ) → Leaves now old lines g u → (a : IsAsked u new left now_left f0 f1 asked)
-    → effect_of now g asked.line (Ok asked.item) ≡ effect → answers 0 ≡ now
+pub leaves-line : (now : ℕ) (old u new : Unread) (left now_left : Option (List ℕ)) (f0 f1 : ℕ) (lines more : List (List ℕ)) (asked : Asked) (read_as : Result Item Reason) (g : Gathered) (effect : Effect)
+    (answers : ℕ → ℕ) → Leaves now old lines g u → (a : IsAsked u new left now_left f0 f1 asked read_as)
+    → effect_of now g asked.line read_as ≡ effect → answers 0 ≡ now
     → batch_from answers beginning (standing old) ((lines ++ a.line ∷ []) ++ more)
     ≡ by_effect effect (refused_at u.line) (λ next. batch_from answers next (standing new) more)
     (followed (has_feed a.line) true g.calls (batch_from (later answers) beginning (standing new) more))
-leaves-line now old u new left now_left f0 f1 lines more asked g effect answers leaves a does e =
+leaves-line now old u new left now_left f0 f1 lines more asked read_as g effect answers leaves a does e =
     ap (λ (ls : List (List ℕ)). batch_from answers beginning (standing old) ls) (append_assoc lines (a.line ∷ []) more)
     ∙ leaves answers (a.line ∷ more) e
     ∙ batch_from-effect answers now g (standing u) a.line more effect e
-    (line_effect-is now g u a.line asked.item asked.line a.number a.item ∙ does)
+    (line_effect-is now g u a.line read_as asked.line a.number a.item ∙ does)
     ∙ ap (λ (at : Standing).
     by_effect effect (refused_at u.line) (λ next. batch_from answers next at more)
     (followed (has_feed a.line) true g.calls (batch_from (later answers) beginning at more))) (sym a.stands)
 
-pub Reached-more : (workers now : ℕ) (old u new : Unread) (first left now_left : Option (List ℕ)) (f0 f1 f2 : ℕ) (s next : Gather) (asked : Asked)
-    → (r : Reached workers now old u first left f0 f1 s) → IsAsked u new left now_left f1 f2 asked
-    → Puts workers asked.line r.gathered (effect_of now r.gathered asked.line (Ok asked.item)) next (Ok true)
+pub Reached-more : (workers now : ℕ) (old u new : Unread) (first left now_left : Option (List ℕ)) (f0 f1 f2 : ℕ) (s next : Gather) (asked : Asked) (read_as : Result Item Reason)
+    → (r : Reached workers now old u first left f0 f1 s) → IsAsked u new left now_left f1 f2 asked read_as
+    → Puts workers asked.line r.gathered (effect_of now r.gathered asked.line read_as) next (Ok true)
     → Reached workers now old new first now_left f0 f2 next
-Reached-more workers now old u new first left now_left f0 f1 f2 s next asked r a puts =
-    let on = goes_on workers asked.line r.gathered (effect_of now r.gathered asked.line (Ok asked.item)) next puts in
+Reached-more workers now old u new first left now_left f0 f1 f2 s next asked read_as r a puts =
+    let on = goes_on workers asked.line r.gathered (effect_of now r.gathered asked.line read_as) next puts in
     record {
       gathered = on.0;
       gathers = on.2;
       lines = r.lines ++ a.line ∷ [];
       read = r.read ++ a.piece;
-      came = Came-more old u new first left now_left f1 f2 r.lines r.read asked r.came a;
+      came = Came-more old u new first left now_left f1 f2 r.lines r.read asked read_as r.came a;
       needed = needed-more now old u new.ended first left now_left f0 f1 f2 r.lines r.read a.piece r.gathered r.came r.leaves r.needed a.read_on;
       still = still-more now old u new.ended first left now_left f0 f1 f2 r.lines r.read a.piece r.gathered r.came r.leaves r.still a.read_on;
       leaves = λ answers more e.
-          leaves-line now old u new left now_left f1 f2 r.lines more asked r.gathered (GoesOn on.0) answers r.leaves a on.1 e;
+          leaves-line now old u new left now_left f1 f2 r.lines more asked read_as r.gathered (GoesOn on.0) answers r.leaves a on.1 e;
       few =
-          omega (arith, few-more now r.gathered on.0 asked.line asked.item on.1, r.few, passed-line u new left now_left f1 f2 asked a);
+          omega (arith, few-more now r.gathered on.0 asked.line read_as on.1, r.few, passed-line u new left now_left f1 f2 asked read_as a);
     }

@@ -2,11 +2,11 @@
 use Rattle.std.proofs.Common.{◌≡◌, inl, inr, ℕ, ◌+◌, ◌-◌, ◌<◌, ◌≤◌, ◌||◌, Bool, true, false, List, [], ◌∷◌, ◌++◌, length, take, drop, refl, sym, ap, subst, ◌∙◌, arith, Option, Some, None, Ok, Err, Result, nat_le, min, append_assoc, length-take, length-take-le, take-append-drop}
 use Rattle.std.proofs.lemmas.Bool.Decides.{nat_tests}
 use Rattle.std.proofs.lemmas.List.{drop-take, drop-append-le, drop_all}
-use Rattle.xf_types.specs.declared.status.Reason.{Reason}
 use Rattle.xf_types.specs.declared.status.Reason.TheVariants as reason
-use Rattle.xf_read.specs.declared.reader.Item.{Item}
+use Rattle.xf_grammar.specs.declared.head.Head.{Head}
+use Rattle.xf_grammar.specs.declared.row.Field.{Field}
 use Rattle.xf_read.specs.declared.reader.Unread.{Unread}
-use Rattle.xf_read.specs.Items.{line_item}
+use Rattle.xf_read.specs.Items.{asked_by, line_item}
 use Rattle.xf_lex.specs.declared.quoting.Quoting.TheVariants.{Bare}
 use Rattle.xf_lex.specs.LogicalLines.{lines_of}
 use Rattle.xf_batch.specs.declared.fault.PhaseFault.{PhaseFault}
@@ -43,13 +43,6 @@ seen-taken u new rest size takes within fits =
     ∙ sym (drop-take size (room_of new) (unread_bytes u ++ rest))
     ∙ ap (λ k. drop size (take k (unread_bytes u ++ rest))) room
 
--- a line that asks for something doesn't pass the limit
-not_over : (over : Bool) (read : Result Item Reason) (item : Item) → judged over read ≡ Ok item → over ≡ false
-not_over false read item e = refl
-not_over true (Ok asked) item e = absurd cc
-not_over true (Err reason.Long) item e = absurd cc
-not_over true (Err _) item e = absurd cc
-
 -- a line feed ended it only where the end wasn't read
 feed_goes_on : (ended : Bool) (bytes : List ℕ) (size : ℕ) → (ended ≡ true → ends_within Bare bytes ≡ false)
     → has_feed (take size bytes) ≡ true → ended ≡ false
@@ -63,16 +56,15 @@ all_ended true room size length all is fits = (refl, omega (arith, is, fits))
 all_ended false room size length all is fits =
     let more : room ≤ length = grind (arith, nat_tests, all) in absurd (omega (arith, more, is, fits))
 
-EndsLine-taken : (mid new : Unread) (size : ℕ) (item : Item) → EndsLast mid → IsNextLine mid size → Takes mid new size
-    → judged (passes_limit (standing mid) (take size (unread_bytes mid))) (line_item (take size (unread_bytes mid))) ≡ Ok item
+EndsLine-taken : (mid new : Unread) (size : ℕ) → EndsLast mid → IsNextLine mid size → Takes mid new size
+    → passes_limit (standing mid) (take size (unread_bytes mid)) ≡ false
     → EndsLine (take size (unread_bytes mid)) new
-EndsLine-taken mid new size item last next takes read =
+EndsLine-taken mid new size last next takes under =
     let line = take size (unread_bytes mid) in
     elim next.ends as (λ _. EndsLine line new) [
       | inl feed ↦ inl (feed, takes.ended ∙ feed_goes_on mid.ended (unread_bytes mid) size last feed)
-      | inr ends ↦ let over : passes_limit (standing mid) line ≡ false = not_over (passes_limit (standing mid) line) (line_item line) item read in
-          let count : length line ≡ size = length-take-le size (unread_bytes mid) next.within in
-          let fits : size < room_of mid = grind (arith, nat_tests, over, count) in
+      | inr ends ↦ let count : length line ≡ size = length-take-le size (unread_bytes mid) next.within in
+          let fits : size < room_of mid = grind (arith, nat_tests, under, count) in
           let all = all_ended mid.ended (room_of mid) size (length (unread_bytes mid)) ends.all
           (ends.whole ∙ length-take (room_of mid) (unread_bytes mid)) fits in
           inr (
@@ -82,11 +74,13 @@ EndsLine-taken mid new size item last next takes read =
     ]
 
 -- a line that asks for something
-pub IsAsked-taken : (old mid new : Unread) (first left : Option (List ℕ)) (f0 f1 size : ℕ) (item : Item) → Grows old mid first left f0 f1
+pub IsAsked-taken : (old mid new : Unread) (first left : Option (List ℕ)) (f0 f1 size : ℕ) (head : Option Head) (fields : List Field)
+    → Grows old mid first left f0 f1
     → IsNextLine mid size → Takes mid new size
-    → judged (passes_limit (standing mid) (take size (unread_bytes mid))) (line_item (take size (unread_bytes mid))) ≡ Ok item
-    → Asks old new first left f0 f1 (Ok (Some (record { line = old.line; item = item })))
-IsAsked-taken old mid new first left f0 f1 size item on next takes read =
+    → judged (passes_limit (standing mid) (take size (unread_bytes mid))) (line_item (take size (unread_bytes mid))) ≡ asked_by head fields
+    → passes_limit (standing mid) (take size (unread_bytes mid)) ≡ false
+    → Asks old new first left f0 f1 fields (Ok (Some (record { line = old.line; head = head })))
+IsAsked-taken old mid new first left f0 f1 size head fields on next takes read under =
     let line = take size (unread_bytes mid) in
     let place = standing-read old mid first left f0 f1 on in
     record {
@@ -99,7 +93,7 @@ IsAsked-taken old mid new first left f0 f1 size item on next takes read =
       stands = takes.behind ∙ ap (λ (s : Standing). behind s line) place;
       number = refl;
       item = ap (λ (s : Standing). judged (passes_limit s line) (line_item line)) (sym place) ∙ read;
-      ends = EndsLine-taken mid new size item on.last next takes read;
+      ends = EndsLine-taken mid new size on.last next takes under;
       lines = λ rest follows.
           ap lines_of (sym (seen-read old mid first left f0 f1 on rest))
           ∙ next.lines rest (λ e. follows (takes.ended ∙ e))
@@ -107,9 +101,9 @@ IsAsked-taken old mid new first left f0 f1 size item on next takes read =
     }
 
 -- there is none
-pub IsNoLine-read : (old mid : Unread) (first left : Option (List ℕ)) (f0 f1 : ℕ) → Grows old mid first left f0 f1
-    → (mid.ended ≡ true) × (unread_bytes mid ≡ []) → Asks old mid first left f0 f1 (Ok None)
-IsNoLine-read old mid first left f0 f1 on none = record {
+pub IsNoLine-read : (old mid : Unread) (first left : Option (List ℕ)) (f0 f1 : ℕ) (fields : List Field) → Grows old mid first left f0 f1
+    → (mid.ended ≡ true) × (unread_bytes mid ≡ []) → Asks old mid first left f0 f1 fields (Ok None)
+IsNoLine-read old mid first left f0 f1 fields on none = record {
   piece = on.piece;
   read_on = subst (λ (b : Bool). ReadsOn old b on.piece first left f0 f1) none.0 on.read_on;
   all = record { ended = none.0; none = none.1 };
@@ -118,11 +112,12 @@ IsNoLine-read old mid first left f0 f1 on none = record {
 }
 
 -- a bad line
-pub Asks-bad : (old mid new : Unread) (first left : Option (List ℕ)) (f0 f1 size : ℕ) (why : PhaseFault) → Grows old mid first left f0 f1
+pub Asks-bad : (old mid new : Unread) (first left : Option (List ℕ)) (f0 f1 size : ℕ) (fields : List Field) (why : PhaseFault)
+    → Grows old mid first left f0 f1
     → IsNextLine mid size
-    → GivesJudged (Err why) mid.line (judged (passes_limit (standing mid) (take size (unread_bytes mid))) (line_item (take size (unread_bytes mid))))
-    → Asks old new first left f0 f1 (Err why)
-Asks-bad old mid new first left f0 f1 size (fault.Bad line why) on next read =
+    → GivesJudged (Err why) fields mid.line (judged (passes_limit (standing mid) (take size (unread_bytes mid))) (line_item (take size (unread_bytes mid))))
+    → Asks old new first left f0 f1 fields (Err why)
+Asks-bad old mid new first left f0 f1 size fields (fault.Bad line why) on next read =
     let bytes = take size (unread_bytes mid) in
     record {
       piece = on.piece;
@@ -138,13 +133,13 @@ Asks-bad old mid new first left f0 f1 size (fault.Bad line why) on next read =
             ∙ read.1;
       };
     }
-Asks-bad old mid new first left f0 f1 size fault.ReadFault on next read = absurd read
-Asks-bad old mid new first left f0 f1 size fault.NoMemory on next read = tt
+Asks-bad old mid new first left f0 f1 size fields fault.ReadFault on next read = absurd read
+Asks-bad old mid new first left f0 f1 size fields fault.NoMemory on next read = tt
 
 -- one that is long
-pub Asks-long : (old mid : Unread) (first left : Option (List ℕ)) (f0 f1 : ℕ) → Grows old mid first left f0 f1
-    → ((rest : List ℕ) → IsLongNext mid rest) → Asks old mid first left f0 f1 (Err (fault.Bad old.line reason.Long))
-Asks-long old mid first left f0 f1 on long = record {
+pub Asks-long : (old mid : Unread) (first left : Option (List ℕ)) (f0 f1 : ℕ) (fields : List Field) → Grows old mid first left f0 f1
+    → ((rest : List ℕ) → IsLongNext mid rest) → Asks old mid first left f0 f1 fields (Err (fault.Bad old.line reason.Long))
+Asks-long old mid first left f0 f1 fields on long = record {
   piece = on.piece;
   ended = mid.ended;
   read_on = on.read_on;
@@ -160,8 +155,8 @@ Asks-long old mid first left f0 f1 on long = record {
 }
 
 -- no line was found
-pub Asks-broken : (old new : Unread) (first left : Option (List ℕ)) (f0 f1 : ℕ) (why : PhaseFault) → BreaksOff old first left why
-    → Asks old new first left f0 f1 (Err why)
-Asks-broken old new first left f0 f1 (fault.Bad line why) breaks = absurd breaks
-Asks-broken old new first left f0 f1 fault.ReadFault breaks = breaks
-Asks-broken old new first left f0 f1 fault.NoMemory breaks = tt
+pub Asks-broken : (old new : Unread) (first left : Option (List ℕ)) (f0 f1 : ℕ) (fields : List Field) (why : PhaseFault) → BreaksOff old first left why
+    → Asks old new first left f0 f1 fields (Err why)
+Asks-broken old new first left f0 f1 fields (fault.Bad line why) breaks = absurd breaks
+Asks-broken old new first left f0 f1 fields fault.ReadFault breaks = breaks
+Asks-broken old new first left f0 f1 fields fault.NoMemory breaks = tt

@@ -2,9 +2,11 @@
 use Rattle.std.specs.Prelude.{◌≡◌, ◌⊎◌, ℕ, ◌<◌, Bool, true, false, List, [], ◌∷◌, ◌++◌, length, take, drop, Option, None, Some, Result, Ok, Err}
 use Rattle.xf_types.specs.declared.status.Reason.{Reason}
 use Rattle.xf_lex.specs.LogicalLines.{lines_of}
+use Rattle.xf_grammar.specs.declared.head.Head.{Head}
+use Rattle.xf_grammar.specs.declared.row.Field.{Field}
 use Rattle.xf_read.specs.declared.reader.Item.{Item}
 use Rattle.xf_read.specs.declared.reader.Unread.{Unread}
-use Rattle.xf_read.specs.Items.{line_item}
+use Rattle.xf_read.specs.Items.{asked_by, line_item}
 use Rattle.xf_batch.specs.declared.fault.PhaseFault.{PhaseFault}
 use Rattle.xf_batch.specs.declared.fault.PhaseFault.TheVariants as fault
 use Rattle.xf_batch.specs.declared.items.Asked.{Asked}
@@ -13,12 +15,12 @@ use Rattle.xf_batch.specs.Coming.{Breaks, ReadsOn, seen_to_come}
 use Rattle.xf_batch.specs.LineEnds.{has_feed}
 use Rattle.xf_batch.specs.Reading.{MayFollow, standing, unread_bytes}
 
--- what a line asks for, or its fault with the line's number, want of memory aside
-abbrev pub GivesJudged : Result Item PhaseFault → ℕ → Result Item Reason → Type 0
-GivesJudged (Ok asked) number read = read ≡ Ok asked
-GivesJudged (Err (fault.Bad line why)) number read = (line ≡ number) × (read ≡ Err why)
-GivesJudged (Err fault.ReadFault) number read = ⊥
-GivesJudged (Err fault.NoMemory) number read = Unit {0}
+-- a line is read as what its head asks for with its fields, or as its fault with the line's number, want of memory aside
+abbrev pub GivesJudged : Result (Option Head) PhaseFault → List Field → ℕ → Result Item Reason → Type 0
+GivesJudged (Ok head) fields number read = read ≡ asked_by head fields
+GivesJudged (Err (fault.Bad line why)) fields number read = (line ≡ number) × (read ≡ Err why)
+GivesJudged (Err fault.ReadFault) fields number read = ⊥
+GivesJudged (Err fault.NoMemory) fields number read = Unit {0}
 
 -- a line of so many unread bytes was taken
 pub record Takes (old new : Unread) (size : ℕ) : Type 0 where
@@ -43,8 +45,9 @@ pub record IsNoLine (old new : Unread) (left_old left_new : Option (List ℕ)) (
 abbrev pub EndsLine : List ℕ → Unread → Type 0
 EndsLine line new = ((has_feed line ≡ true) × (new.ended ≡ false)) ⊎ ((has_feed line ≡ false) × IsAllRead new)
 
--- the next line asks for this, and it was taken
-pub record IsAsked (old new : Unread) (left_old left_new : Option (List ℕ)) (faults_old faults_new : ℕ) (asked : Asked) : Type 0 where
+-- the next line is read as this, and it was taken
+pub record IsAsked (old new : Unread) (left_old left_new : Option (List ℕ)) (faults_old faults_new : ℕ) (asked : Asked) (read : Result Item Reason)
+    : Type 0 where
   pub piece : List ℕ
   pub read_on : ReadsOn old new.ended piece left_old left_new faults_old faults_new
   pub line : List ℕ
@@ -52,7 +55,7 @@ pub record IsAsked (old new : Unread) (left_old left_new : Option (List ℕ)) (f
   pub bytes : unread_bytes old ++ piece ≡ line ++ unread_bytes new
   pub stands : standing new ≡ behind (standing old) line
   pub number : asked.line ≡ old.line
-  pub item : judged (passes_limit (standing old) line) (line_item line) ≡ Ok asked.item
+  pub item : judged (passes_limit (standing old) line) (line_item line) ≡ read
   pub ends : EndsLine line new
   pub lines : (rest : List ℕ) → MayFollow new.ended rest → lines_of (seen_to_come old (piece ++ rest)) ≡ line ∷ lines_of (seen_to_come new rest)
 
@@ -71,10 +74,12 @@ pub record IsBadNext (old : Unread) (left_old left_new : Option (List ℕ)) (fau
   pub number : line ≡ old.line
   pub bad : (rest : List ℕ) → MayFollow ended rest → IsBadLine old why (piece ++ rest)
 
--- what is said of the next line, want of memory aside
-abbrev pub Asks : Unread → Unread → Option (List ℕ) → Option (List ℕ) → ℕ → ℕ → Result (Option Asked) PhaseFault → Type 0
-Asks old new left_old left_new faults_old faults_new (Ok None) = IsNoLine old new left_old left_new faults_old faults_new
-Asks old new left_old left_new faults_old faults_new (Ok (Some asked)) = IsAsked old new left_old left_new faults_old faults_new asked
-Asks old new left_old left_new faults_old faults_new (Err (fault.Bad line why)) = IsBadNext old left_old left_new faults_old faults_new line why
-Asks old new left_old left_new faults_old faults_new (Err fault.ReadFault) = Breaks old left_old left_new
-Asks old new left_old left_new faults_old faults_new (Err fault.NoMemory) = Unit {0}
+-- what is said of the next line and of its fields, want of memory aside
+abbrev pub Asks : Unread → Unread → Option (List ℕ) → Option (List ℕ) → ℕ → ℕ → List Field → Result (Option Asked) PhaseFault → Type 0
+Asks old new left_old left_new faults_old faults_new fields (Ok None) = IsNoLine old new left_old left_new faults_old faults_new
+Asks old new left_old left_new faults_old faults_new fields (Ok (Some asked)) =
+    IsAsked old new left_old left_new faults_old faults_new asked (asked_by asked.head fields)
+Asks old new left_old left_new faults_old faults_new fields (Err (fault.Bad line why)) =
+    IsBadNext old left_old left_new faults_old faults_new line why
+Asks old new left_old left_new faults_old faults_new fields (Err fault.ReadFault) = Breaks old left_old left_new
+Asks old new left_old left_new faults_old faults_new fields (Err fault.NoMemory) = Unit {0}

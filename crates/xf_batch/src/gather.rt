@@ -1,15 +1,17 @@
 //! A phase, line by line.
 ghost use Rattle.std.specs.Prelude.{◌≡◌, ℕ, ◌<◌, ◌≤◌, ◌^◌, length, IfErr, IfOk};
 ghost use Rattle.xf_read.specs.declared.reader.Item.{Item as ReadItem};
+ghost use Rattle.xf_read.specs.Items.{asked_by, fields_read};
 ghost use Rattle.xf_batch.specs.Batch.{Gathered, beginning, effect_of, is_list_line, is_over, with_call};
 ghost use Rattle.xf_batch.specs.Gathers.{Gathers, Puts};
 ghost use Rattle.xf_batch.specs.Shown.{line_of, line_with};
 
 use crate::fault::PhaseFault;
+use crate::items::Asked;
 use crate::phase::Phase;
 use crate::task::{Job, Task};
 use std::alloc::Global;
-use xf_read::Item;
+use xf_read::{Item, LineReader};
 use xf_types::{Call, Reason};
 
 // How many call lines a phase may have, and how many lists among them.
@@ -81,8 +83,8 @@ impl Gather {
         Ok(true)
     }
 
-    /// Puts what a line asks for behind the lines so far, and says whether the phase goes on. `now` is what the clock says.
-    pub(crate) fn put_item(&mut self, line: u64, item: Item, now: u64) -> Result<bool, PhaseFault>
+    // Puts what a line asks for behind the lines so far, and says whether the phase goes on.
+    fn put_item(&mut self, line: u64, item: Item, now: u64) -> Result<bool, PhaseFault>
         requires { 0 < length self.old.threads.items }
         ensures { (workers : ℕ) (g : Gathered) → Gathers workers self.old g
             → Puts workers line g (effect_of now g line (Ok item)) self.new result }
@@ -97,6 +99,30 @@ impl Gather {
             Item::TickNow => self.push_line(line, Job::One(Call::Tick(now))),
             Item::One(call) => self.push_line(line, Job::One(call)),
             Item::Send { flow, len } => self.push_line(line, Job::Send { flow, len }),
+        }
+    }
+
+    /// Puts what the line asks for that was read last behind the lines so far, and says whether the phase goes on. `now` is what
+    /// the clock says.
+    pub(crate) fn put_asked(
+        &mut self,
+        lines: &LineReader,
+        asked: Asked,
+        now: u64,
+    ) -> Result<bool, PhaseFault>
+        requires { 0 < length self.old.threads.items }
+        ensures { (workers : ℕ) (g : Gathered) → Gathers workers self.old g
+            → Puts workers asked.line g (effect_of now g asked.line (asked_by asked.head (fields_read lines.now))) self.new result }
+    {
+        if asked.head.is_none() {
+            return Ok(true);
+        }
+        match lines.asked(asked.head) {
+            Ok(item) => self.put_item(asked.line, item, now),
+            Err(reason) => Err(PhaseFault::Bad {
+                line: asked.line,
+                reason,
+            }),
         }
     }
 

@@ -39,7 +39,7 @@ pub fn read_phase<S: Source>(
     } = r;
     let mut gather = Gather::new(alloc, workers)?;
     'lines: while let Some(asked) = next_item(&mut lines, &mut unread, src)? {
-        if !gather.put_item(asked.line, asked.item, now)? {
+        if !gather.put_asked(&lines, asked, now)? {
             // The end was read only where it ends this line too.
             let phase = gather.finish(true, !unread.ended);
             return Ok((phase, Reader { lines, unread }));

@@ -1,7 +1,7 @@
 //! The fields of a line's words.
 ghost use Rattle.std.specs.Prelude.{◌≡◌, ◌+◌};
 ghost use Rattle.xf_lex.specs.Gives.{Gives};
-ghost use Rattle.xf_lex.specs.Shown.{shown};
+ghost use Rattle.xf_lex.specs.Plain.{left};
 ghost use Rattle.xf_grammar.specs.Grammar.{row_in, row_among, row_of, was_used, fields_of};
 ghost use Rattle.xf_grammar.specs.Seen.{seen, uses};
 ghost use Rattle.xf_grammar.specs.Tables.{rows_of};
@@ -11,7 +11,7 @@ use crate::row::{Arg, Args, Field, Row, Slot, Table, Value};
 use crate::tables::rows_in;
 use crate::values::read_value;
 use std::alloc::Global;
-use xf_lex::LineFault;
+use xf_lex::{LineFault, Words};
 use xf_types::Reason;
 
 /// A word that a group had.
@@ -251,12 +251,12 @@ impl Progress {
         &mut self,
         tables: &[Table],
         first: Args,
-        words: &[Vec<u8>],
+        mut words: Words,
     ) -> Result<(), LineFault>
-        ensures { Gives (λ _. self.new.fields.items) result (fields_of tables.now first (shown words.now)) }
+        ensures { Gives (λ _. self.new.fields.items) result (fields_of tables.now first (left words.entry)) }
     {
         self.reset(first);
-        'words: for word in words {
+        'words: while let Some(word) = words.next() {
             self.after_word(tables, word)?;
         }
         self.end()

@@ -2,9 +2,10 @@
 ghost use Rattle.std.specs.Prelude.{◌≡◌};
 ghost use Rattle.xf_lex.specs.Gives.{Reads};
 ghost use Rattle.xf_grammar.specs.Heads.{head_rows_of, head_row_in, head_of};
-ghost use Rattle.xf_lex.specs.Shown.{shown};
+ghost use Rattle.xf_lex.specs.Plain.{left};
 
 use crate::keyword::Keyword;
+use xf_lex::Words;
 use xf_types::{Dir, Reason};
 
 /// What kind of line it is.
@@ -146,17 +147,18 @@ fn find_head_row(rows: &[HeadRow], word: &[u8]) -> Option<HeadRow>
     None
 }
 
-/// The head that the words begin with, from this table on, and the words after it.
-pub fn read_head(table: HeadTable, words: &[Vec<u8>]) -> Result<(Head, &[Vec<u8>]), Reason>
-    ensures { Reads (λ found. (found.0, shown found.1.now)) result (head_of table (shown words.now)) }
+/// Reads the head that the words begin with, from this table on, and leaves the words after it.
+pub fn read_head(table: HeadTable, words: &mut Words) -> Result<Head, Reason>
+    ensures { Reads (λ head. (head, left words.new)) result (head_of table (left words.old)) }
 {
-    match words {
-        [] => Err(Reason::Missing),
-        [first, rest @ ..] => match find_head_row(head_rows_in(table), first) {
-            Some(HeadRow::Leads(_, next)) => read_head(next, rest),
-            Some(HeadRow::Ends(_, head)) => Ok((head, rest)),
-            Some(HeadRow::Unsupported(_)) => Err(Reason::Unsupported),
-            None => Err(Reason::Word),
-        },
+    let mut table = table;
+    'words: while let Some(word) = words.next() {
+        match find_head_row(head_rows_in(table), word) {
+            Some(HeadRow::Leads(_, next)) => table = next,
+            Some(HeadRow::Ends(_, head)) => return Ok(head),
+            Some(HeadRow::Unsupported(_)) => return Err(Reason::Unsupported),
+            None => return Err(Reason::Word),
+        }
     }
+    Err(Reason::Missing)
 }

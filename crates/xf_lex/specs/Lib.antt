@@ -4,3 +4,4 @@ pub mod Lines
 pub mod LogicalLines
 pub mod Shown
 pub mod Gives
+pub mod Plain

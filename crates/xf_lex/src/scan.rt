@@ -2,13 +2,16 @@
 ghost use Rattle.std.specs.Prelude.{◌≡◌, ◌≤◌, ◌<◌, ◌+◌, length, OnOk};
 ghost use Rattle.xf_lex.specs.Gives.{Gives};
 ghost use Rattle.xf_lex.specs.Lines.{line_start, scan_turn, run_turn, finished, words_of};
+ghost use Rattle.xf_lex.specs.Plain.{left};
 ghost use Rattle.xf_lex.specs.Quotes.{plain_count};
 ghost use Rattle.xf_lex.specs.declared.quoting.Quoting.TheVariants.{Bare};
 ghost use Rattle.xf_lex.specs.Shown.{shown, scanned};
 
 use crate::fault::LineFault;
 use crate::lexer::Lexer;
+use crate::plain::plain_front;
 use crate::quoting::{Quoting, plain_count};
+use crate::words::Words;
 use std::alloc::{AllocError, Global};
 use xf_types::Reason;
 
@@ -118,5 +121,20 @@ impl Scan {
             }
         }
         self.finish()
+    }
+
+    /// The words of a logical line: those of a plain line where they stand, and those of any other as they were listed.
+    pub fn words<'a>(
+        &'a mut self,
+        alloc: Global,
+        bytes: &'a [u8],
+    ) -> Result<Words<'a>, LineFault>
+        ensures { Gives left result (words_of bytes.now) }
+    {
+        if let Some(front) = plain_front(bytes) {
+            return Ok(Words::Plain(front));
+        }
+        self.read_words(alloc, bytes)?;
+        Ok(Words::Listed(&self.lexer.words))
     }
 }

@@ -1,14 +1,19 @@
 -- What a line asks for, or its fault.
-use Rattle.std.specs.Prelude.{◌≡◌, ℕ, List, [], ◌∷◌, Result, Ok, Err}
+use Rattle.std.specs.Prelude.{◌≡◌, ℕ, List, [], ◌∷◌, Option, None, Some, Result, Ok, Err}
 use Rattle.xf_types.specs.declared.status.Reason.{Reason}
+use Rattle.xf_lex.specs.declared.fault.LineFault.{LineFault}
+use Rattle.xf_lex.specs.Gives.{Fails}
 use Rattle.xf_lex.specs.Lexing.{Word}
 use Rattle.xf_lex.specs.Lines.{words_of}
+use Rattle.xf_grammar.specs.declared.head.Head.{Head}
 use Rattle.xf_grammar.specs.declared.head.HeadTable.TheVariants.{Start}
+use Rattle.xf_grammar.specs.declared.row.Field.{Field}
 use Rattle.xf_grammar.specs.Grammar.{◌>>=◌, fields_of}
 use Rattle.xf_grammar.specs.Heads.{head_of}
 use Rattle.xf_grammar.specs.Tables.{tables_of, first_of}
 use Rattle.xf_read.specs.declared.fault.ReadFault.{ReadFault}
 use Rattle.xf_read.specs.declared.fault.ReadFault.TheVariants.{Bad, NoMemory}
+use Rattle.xf_read.specs.declared.line_reader.LineReader.{LineReader}
 use Rattle.xf_read.specs.declared.reader.Item.{Item}
 use Rattle.xf_read.specs.declared.reader.Item.TheVariants.{Nothing}
 use Rattle.xf_read.specs.Calls.{asked_of}
@@ -24,6 +29,20 @@ words_item (w ∷ ws) = do
 -- a logical line's own faults come before those of its words
 unfoldable pub line_item : List ℕ → Result Item Reason
 line_item bytes = words_of bytes >>= words_item
+
+-- the fields of the line that was read last
+abbrev pub fields_read : LineReader → List Field
+fields_read reader = reader.progress.fields.items
+
+-- what a head asks for with its fields; a line without words is nothing
+abbrev pub asked_by : Option Head → List Field → Result Item Reason
+asked_by None fields = Ok Nothing
+asked_by (Some head) fields = asked_of head fields
+
+-- the head that was read asks with these fields for what the line is read as, or the fault is the reading's
+abbrev pub GivesHead : Result (Option Head) LineFault → List Field → Result Item Reason → Type 0
+GivesHead (Ok head) fields reading = reading ≡ asked_by head fields
+GivesHead (Err fault) fields reading = Fails fault reading
 
 -- a fault has the line's number
 abbrev pub numbered : ℕ → Result Item Reason → Result Item ReadFault

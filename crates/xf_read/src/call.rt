@@ -1,5 +1,6 @@
 //! From a head and fields to what a line asks for.
 ghost use Rattle.std.specs.Prelude.{◌≡◌};
+ghost use Rattle.xf_grammar.specs.declared.head.Head.TheVariants as head;
 ghost use Rattle.xf_read.specs.Calls as rule;
 
 use crate::alloc_spi::read_alloc;
@@ -12,7 +13,138 @@ use crate::thresholds::read_thresholds;
 use crate::tick::read_tick;
 use crate::worker::read_worker;
 use xf_grammar::{Field, Head, ipsec_in, ptype_in};
-use xf_types::{Call, Reason};
+use xf_types::{Call, Dir, Reason};
+
+// Each kind of call has a function of its own that isn't inlined: a function clears all its locals where it begins, and a line
+// pays for those of its own kind alone.
+
+#[inline(never)]
+#[tactic(auto, unfolding(crate::specs::Calls::asked_of))]
+fn policy_add(fields: &[Field]) -> Result<Item, Reason>
+    ensures { result ≡ rule.asked_of head.PolicyAdd fields.now }
+{
+    Ok(Item::One(Call::PolicyAdd(read_spec(fields)?)))
+}
+
+#[inline(never)]
+#[tactic(auto, unfolding(crate::specs::Calls::asked_of))]
+fn policy_update(fields: &[Field]) -> Result<Item, Reason>
+    ensures { result ≡ rule.asked_of head.PolicyUpdate fields.now }
+{
+    Ok(Item::One(Call::PolicyUpdate(read_spec(fields)?)))
+}
+
+#[inline(never)]
+#[tactic(auto, unfolding(crate::specs::Calls::asked_of))]
+fn policy_delete(fields: &[Field]) -> Result<Item, Reason>
+    ensures { result ≡ rule.asked_of head.PolicyDelete fields.now }
+{
+    Ok(Item::One(Call::PolicyDelete(read_key(fields)?)))
+}
+
+#[inline(never)]
+#[tactic(auto, unfolding(crate::specs::Calls::asked_of))]
+fn policy_get(fields: &[Field]) -> Result<Item, Reason>
+    ensures { result ≡ rule.asked_of head.PolicyGet fields.now }
+{
+    Ok(Item::One(Call::PolicyGet(read_key(fields)?)))
+}
+
+#[inline(never)]
+#[tactic(auto, unfolding(crate::specs::Calls::asked_of))]
+fn policy_delete_all(fields: &[Field]) -> Result<Item, Reason>
+    ensures { result ≡ rule.asked_of head.PolicyDeleteAll fields.now }
+{
+    Ok(Item::One(Call::PolicyDeleteAll(read_filter(fields)?)))
+}
+
+#[inline(never)]
+#[tactic(auto, unfolding(crate::specs::Calls::asked_of))]
+fn policy_list(fields: &[Field]) -> Result<Item, Reason>
+    ensures { result ≡ rule.asked_of head.PolicyList fields.now }
+{
+    Ok(Item::One(Call::PolicyList(read_filter(fields)?)))
+}
+
+#[inline(never)]
+#[tactic(auto, unfolding(crate::specs::Calls::asked_of))]
+fn policy_set(fields: &[Field]) -> Result<Item, Reason>
+    ensures { result ≡ rule.asked_of head.PolicySet fields.now }
+{
+    Ok(Item::One(Call::PolicySet(read_thresholds(fields)?)))
+}
+
+#[inline(never)]
+#[tactic(auto, unfolding(crate::specs::Calls::asked_of))]
+fn state_add(fields: &[Field]) -> Result<Item, Reason>
+    ensures { result ≡ rule.asked_of head.StateAdd fields.now }
+{
+    Ok(Item::One(Call::StateAdd(read_sa(fields)?)))
+}
+
+#[inline(never)]
+#[tactic(auto, unfolding(crate::specs::Calls::asked_of))]
+fn state_update(fields: &[Field]) -> Result<Item, Reason>
+    ensures { result ≡ rule.asked_of head.StateUpdate fields.now }
+{
+    Ok(Item::One(Call::StateUpdate(read_sa(fields)?)))
+}
+
+#[inline(never)]
+#[tactic(auto, unfolding(crate::specs::Calls::asked_of))]
+fn state_delete(fields: &[Field]) -> Result<Item, Reason>
+    ensures { result ≡ rule.asked_of head.StateDelete fields.now }
+{
+    Ok(Item::One(Call::StateDelete(read_sa_id(fields)?)))
+}
+
+#[inline(never)]
+#[tactic(auto, unfolding(crate::specs::Calls::asked_of))]
+fn state_get(fields: &[Field]) -> Result<Item, Reason>
+    ensures { result ≡ rule.asked_of head.StateGet fields.now }
+{
+    Ok(Item::One(Call::StateGet(read_sa_id(fields)?)))
+}
+
+#[inline(never)]
+#[tactic(auto, unfolding(crate::specs::Calls::asked_of))]
+fn state_delete_all(fields: &[Field]) -> Result<Item, Reason>
+    ensures { result ≡ rule.asked_of head.StateDeleteAll fields.now }
+{
+    Ok(Item::One(Call::StateDeleteAll(read_sa_filter(fields)?)))
+}
+
+#[inline(never)]
+#[tactic(auto, unfolding(crate::specs::Calls::asked_of))]
+fn state_list(fields: &[Field]) -> Result<Item, Reason>
+    ensures { result ≡ rule.asked_of head.StateList fields.now }
+{
+    Ok(Item::One(Call::StateList(read_sa_filter(fields)?)))
+}
+
+#[inline(never)]
+#[tactic(auto, unfolding(crate::specs::Calls::asked_of))]
+fn alloc_spi(fields: &[Field]) -> Result<Item, Reason>
+    ensures { result ≡ rule.asked_of head.AllocSpi fields.now }
+{
+    Ok(Item::One(Call::AllocSpi(read_alloc(fields)?)))
+}
+
+#[inline(never)]
+#[tactic(auto, unfolding(crate::specs::Calls::asked_of))]
+fn packet(fields: &[Field]) -> Result<Item, Reason>
+    ensures { result ≡ rule.asked_of head.Packet fields.now }
+{
+    Ok(Item::One(Call::Packet(read_packet(fields)?)))
+}
+
+#[inline(never)]
+#[tactic(auto, unfolding(crate::specs::Calls::asked_of))]
+fn flow(dir: Dir, fields: &[Field]) -> Result<Item, Reason>
+    ensures { result ≡ rule.asked_of (head.Flow dir) fields.now }
+{
+    Ok(Item::One(Call::Flow(read_flow(dir, fields)?)))
+}
 
 /// What a line asks for, by its head and its fields.
 #[tactic(auto, unfolding(crate::specs::Calls::asked_of))]
@@ -20,27 +152,27 @@ pub(crate) fn read_asked(head: Head, fields: &[Field]) -> Result<Item, Reason>
     ensures { result ≡ rule.asked_of head fields.now }
 {
     match head {
-        Head::PolicyAdd => Ok(Item::One(Call::PolicyAdd(read_spec(fields)?))),
-        Head::PolicyUpdate => Ok(Item::One(Call::PolicyUpdate(read_spec(fields)?))),
-        Head::PolicyDelete => Ok(Item::One(Call::PolicyDelete(read_key(fields)?))),
-        Head::PolicyGet => Ok(Item::One(Call::PolicyGet(read_key(fields)?))),
-        Head::PolicyDeleteAll => Ok(Item::One(Call::PolicyDeleteAll(read_filter(fields)?))),
-        Head::PolicyList => Ok(Item::One(Call::PolicyList(read_filter(fields)?))),
+        Head::PolicyAdd => policy_add(fields),
+        Head::PolicyUpdate => policy_update(fields),
+        Head::PolicyDelete => policy_delete(fields),
+        Head::PolicyGet => policy_get(fields),
+        Head::PolicyDeleteAll => policy_delete_all(fields),
+        Head::PolicyList => policy_list(fields),
         Head::PolicyFlush => Ok(Item::One(Call::PolicyFlush(ptype_in(fields)))),
         Head::PolicyCount => Ok(Item::One(Call::PolicyCount)),
-        Head::PolicySet => Ok(Item::One(Call::PolicySet(read_thresholds(fields)?))),
-        Head::StateAdd => Ok(Item::One(Call::StateAdd(read_sa(fields)?))),
-        Head::StateUpdate => Ok(Item::One(Call::StateUpdate(read_sa(fields)?))),
-        Head::StateDelete => Ok(Item::One(Call::StateDelete(read_sa_id(fields)?))),
-        Head::StateGet => Ok(Item::One(Call::StateGet(read_sa_id(fields)?))),
-        Head::StateDeleteAll => Ok(Item::One(Call::StateDeleteAll(read_sa_filter(fields)?))),
-        Head::StateList => Ok(Item::One(Call::StateList(read_sa_filter(fields)?))),
+        Head::PolicySet => policy_set(fields),
+        Head::StateAdd => state_add(fields),
+        Head::StateUpdate => state_update(fields),
+        Head::StateDelete => state_delete(fields),
+        Head::StateGet => state_get(fields),
+        Head::StateDeleteAll => state_delete_all(fields),
+        Head::StateList => state_list(fields),
         Head::StateFlush => Ok(Item::One(Call::StateFlush(ipsec_in(fields)))),
         Head::StateCount => Ok(Item::One(Call::StateCount)),
-        Head::AllocSpi => Ok(Item::One(Call::AllocSpi(read_alloc(fields)?))),
-        Head::Flow(dir) => Ok(Item::One(Call::Flow(read_flow(dir, fields)?))),
+        Head::AllocSpi => alloc_spi(fields),
+        Head::Flow(dir) => flow(dir, fields),
         Head::Send => read_send(fields),
-        Head::Packet => Ok(Item::One(Call::Packet(read_packet(fields)?))),
+        Head::Packet => packet(fields),
         Head::Tick => read_tick(fields),
         Head::Worker => read_worker(fields),
         Head::Sync => Ok(Item::Sync),

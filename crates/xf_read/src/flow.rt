@@ -32,6 +32,7 @@ pub(crate) fn read_flow(dir: Dir, fields: &[Field]) -> Result<Flow, Reason>
 
 /// The flow along which packets are sent, and their length.
 #[tactic(auto, unfolding(crate::specs::Flows::send_of))]
+#[inline(never)]
 pub(crate) fn read_send(fields: &[Field]) -> Result<Item, Reason>
     ensures { result ≡ rule.send_of fields.now }
 {

@@ -1,15 +1,15 @@
 //! The reader of lines.
 ghost use Rattle.std.specs.Prelude.{◌≡◌};
-ghost use Rattle.xf_lex.specs.Gives.{Gives};
-ghost use Rattle.xf_lex.specs.Shown.{shown};
-ghost use Rattle.xf_read.specs.Items.{words_item, line_item};
+ghost use Rattle.xf_lex.specs.Plain.{left};
+ghost use Rattle.xf_read.specs.Items.{GivesHead, asked_by, fields_read, words_item, line_item};
 
 use crate::call::read_asked;
 use crate::fault::ReadFault;
 use crate::reader::Item;
 use std::alloc::Global;
-use xf_grammar::{HeadTable, Progress, first_in, read_head, tables_in};
-use xf_lex::{LineFault, Scan};
+use xf_grammar::{Head, HeadTable, Progress, first_in, read_head, tables_in};
+use xf_lex::{LineFault, Scan, Words};
+use xf_types::Reason;
 
 /// A reader of lines. Its lists serve one line after another, so that a usual line takes no memory.
 #[derive(Debug, Drop)]
@@ -17,6 +17,19 @@ pub struct LineReader {
     alloc: Global,
     scan: Scan,
     progress: Progress,
+}
+
+// Reads the head and the fields of a line's words.
+#[tactic(auto, unfolding(crate::specs::Items::words_item))]
+fn read_words(progress: &mut Progress, mut words: Words) -> Result<Option<Head>, LineFault>
+    ensures { GivesHead result progress.new.fields.items (words_item (left words.entry)) }
+{
+    if words.is_empty() {
+        return Ok(None);
+    }
+    let head = read_head(HeadTable::Start, &mut words)?;
+    progress.read_fields(tables_in(head), first_in(head), words)?;
+    Ok(Some(head))
 }
 
 impl LineReader {
@@ -31,27 +44,23 @@ impl LineReader {
         }
     }
 
-    // The item of a line's words.
-    #[tactic(auto, unfolding(crate::specs::Items::words_item))]
-    fn read_item(&mut self) -> Result<Item, LineFault>
-        ensures { Gives (λ item. item) result (words_item (shown self.old.scan.lexer.words.items)) }
+    /// Reads the head and the fields of one logical line, and judges them no further; None where it has no words.
+    #[tactic(auto, unfolding(crate::specs::Items::line_item))]
+    pub fn read_line(&mut self, bytes: &[u8]) -> Result<Option<Head>, LineFault>
+        ensures { GivesHead result (fields_read self.new) (line_item bytes.now) }
     {
-        let words = self.scan.lexer.words.as_slice();
-        if words.is_empty() {
-            return Ok(Item::Nothing);
-        }
-        let (head, rest) = read_head(HeadTable::Start, words)?;
-        self.progress
-            .read_fields(tables_in(head), first_in(head), rest)?;
-        Ok(read_asked(head, &self.progress.fields)?)
+        let words = self.scan.words(self.alloc, bytes)?;
+        read_words(&mut self.progress, words)
     }
 
-    #[tactic(auto, unfolding(crate::specs::Items::line_item))]
-    fn read_line(&mut self, bytes: &[u8]) -> Result<Item, LineFault>
-        ensures { Gives (λ item. item) result (line_item bytes.now) }
+    /// What the line asks for whose head and fields were read last.
+    pub fn asked(&self, head: Option<Head>) -> Result<Item, Reason>
+        ensures { result ≡ asked_by head (fields_read self.now) }
     {
-        self.scan.read_words(self.alloc, bytes)?;
-        self.read_item()
+        match head {
+            None => Ok(Item::Nothing),
+            Some(head) => read_asked(head, &self.progress.fields),
+        }
     }
 
     /// Reads one logical line, whole or as far as it takes to be long, with or without its line feed. `number` is that of
@@ -59,13 +68,17 @@ impl LineReader {
     pub fn line(&mut self, bytes: &[u8], number: u64) -> Result<Item, ReadFault>
         ensures { GivesItem result (item_of bytes.now number) }
     {
-        match self.read_line(bytes) {
+        let read = match self.read_line(bytes) {
+            Ok(head) => self.asked(head),
+            Err(LineFault::Bad(reason)) => Err(reason),
+            Err(LineFault::Memory) => return Err(ReadFault::NoMemory),
+        };
+        match read {
             Ok(item) => Ok(item),
-            Err(LineFault::Bad(reason)) => Err(ReadFault::Bad {
+            Err(reason) => Err(ReadFault::Bad {
                 line: number,
                 reason,
             }),
-            Err(LineFault::Memory) => Err(ReadFault::NoMemory),
         }
     }
 }

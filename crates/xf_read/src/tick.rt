@@ -7,6 +7,7 @@ use xf_grammar::{Field, Slot, Value, value_at};
 use xf_types::{Call, Reason};
 
 /// The time to which a line lets time go on.
+#[inline(never)]
 pub(crate) fn read_tick(fields: &[Field]) -> Result<Item, Reason>
     ensures { result ≡ rule.tick_of fields.now }
 {

@@ -8,6 +8,7 @@ use xf_types::Reason;
 
 /// The worker to which the lines that follow belong.
 #[tactic(auto, unfolding(crate::specs::Workers::worker_of))]
+#[inline(never)]
 pub(crate) fn read_worker(fields: &[Field]) -> Result<Item, Reason>
     ensures { result ≡ rule.worker_of fields.now }
 {

@@ -17,11 +17,11 @@ judged-slice u bytes size same within =
     ∙ ap (λ n. judged over (line_item (take n (unread_bytes u)))) back
     ∙ ap (λ n. judged (nat_lt 4294967296 (u.before + n)) (line_item (take size (unread_bytes u)))) (sym (length-take-le size (unread_bytes u) within))
 
-pub returns-in_err-item-clause-judged : goal.returns-in_err-item-clause-judged
-returns-in_err-item-clause-judged c =
+pub returns-in_err-head-clause-judged : goal.returns-in_err-head-clause-judged
+returns-in_err-head-clause-judged c =
     let p = err_from_is_err_and c.from_residual.result c.from_residual.ensures.1 in
-    rw (p.1, p.2, ← judged-slice c.args.unread.now c.deref.result.now c.args.size c.deref.ensures.value c.requires.within) c.in_err-item.ensures
+    rw (p.1, p.2, ← judged-slice c.args.unread.now c.deref.result.now c.args.size c.deref.ensures.value c.requires.within) c.in_err-head.ensures.judged
 
 pub returns-clause-judged : goal.returns-clause-judged
 returns-clause-judged c =
-    sym (judged-slice c.args.unread.now c.deref.result.now c.args.size c.deref.ensures.value c.requires.within) ∙ c.in_ok-item.ensures
+    sym (judged-slice c.args.unread.now c.deref.result.now c.args.size c.deref.ensures.value c.requires.within) ∙ c.in_ok-head.ensures.judged

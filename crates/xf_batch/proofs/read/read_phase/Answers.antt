@@ -1,5 +1,6 @@
-use Rattle.std.proofs.Common.{◌≡◌, true, false, not, refl, ap, sym, ◌∙◌, arith, Ok}
+use Rattle.std.proofs.Common.{◌≡◌, true, false, not, refl, ap, sym, ◌∙◌, arith}
 use Rattle.std.proofs.lemmas.Result.{err_from_is_err_and}
+use Rattle.xf_read.specs.Items.{asked_by, fields_read}
 use Rattle.xf_batch.specs.declared.fault.PhaseFault.TheVariants.{ReadFault}
 use Rattle.xf_batch.specs.Batch.{effect_of}
 use Rattle.xf_batch.proofs.Gathered.{threads-count}
@@ -28,8 +29,8 @@ lines-init g c = record {
 pub next_item-requires : goal.next_item-requires
 next_item-requires g c = c.lines.invariant.reached.came.last
 
-pub put_item-requires : goal.put_item-requires
-put_item-requires g c =
+pub put_asked-requires : goal.put_asked-requires
+put_asked-requires g c =
     let r = c.lines.invariant.reached in
     omega (arith, c.requires.some, threads-count c.args.workers c.lines.gather r.gathered r.gathers)
 
@@ -40,48 +41,48 @@ returns-in_err-asked-clause-phase g c =
     rw (p.1, p.2)
     (given-fault c.args.workers c.args.now c.args.r.unread c.lines.unread c.next_item.new.unread
     (g.S.Source.left c.args.src.now) (g.S.Source.left c.lines.src) (g.S.Source.left c.next_item.new.src) _ _ _
-    c.lines.gather c.in_err-asked.field-0.0 r c.in_err-asked.ensures.item)
+    c.lines.gather (fields_read c.next_item.new.lines) c.in_err-asked.field-0.0 r c.in_err-asked.ensures.item)
 
-pub returns-in_err-put_item-clause-phase : goal.returns-in_err-put_item-clause-phase
-returns-in_err-put_item-clause-phase g c =
-    let p = err_from_is_err_and c.from_residual-in_err-put_item.result c.from_residual-in_err-put_item.ensures.1 in
+pub returns-in_err-put_asked-clause-phase : goal.returns-in_err-put_asked-clause-phase
+returns-in_err-put_asked-clause-phase g c =
+    let p = err_from_is_err_and c.from_residual-in_err-put_asked.result c.from_residual-in_err-put_asked.ensures.1 in
     let r = c.lines.invariant.reached in
     rw (p.1, p.2)
     (given-refused c.args.workers c.args.now c.args.r.unread c.lines.unread c.next_item.new.unread
     (g.S.Source.left c.args.src.now) (g.S.Source.left c.lines.src) (g.S.Source.left c.next_item.new.src) _ _ _
-    c.lines.gather c.put_item.new.self c.in-Some.asked c.in_err-put_item.field-0.0 r (rw c.in-Some.is at c.in_ok-asked.ensures.item)
-    (c.in_err-put_item.ensures c.args.workers r.gathered r.gathers))
+    c.lines.gather c.put_asked.new.self c.in-Some.asked (asked_by c.in-Some.asked.head (fields_read c.next_item.new.lines)) c.in_err-put_asked.field-0.0 r (rw c.in-Some.is at c.in_ok-asked.ensures.item)
+    (c.in_err-put_asked.ensures c.args.workers r.gathered r.gathers))
 
-pub returns-in_err-put_item-clause-cause : goal.returns-in_err-put_item-clause-cause
-returns-in_err-put_item-clause-cause g c =
-    let p = err_from_is_err_and c.from_residual-in_err-put_item.result c.from_residual-in_err-put_item.ensures.1 in
+pub returns-in_err-put_asked-clause-cause : goal.returns-in_err-put_asked-clause-cause
+returns-in_err-put_asked-clause-cause g c =
+    let p = err_from_is_err_and c.from_residual-in_err-put_asked.result c.from_residual-in_err-put_asked.ensures.1 in
     let r = c.lines.invariant.reached in
     rw (p.1, p.2)
     (λ read.
-    let same : c.in_err-put_item.field-0.0 ≡ ReadFault = cc in
+    let same : c.in_err-put_asked.field-0.0 ≡ ReadFault = cc in
     absurd
-    (no_source c.args.workers c.in-Some.asked.line r.gathered (effect_of c.args.now r.gathered c.in-Some.asked.line (Ok c.in-Some.asked.item)) c.put_item.new.self
-    (rw same at (c.in_err-put_item.ensures c.args.workers r.gathered r.gathers))))
+    (no_source c.args.workers c.in-Some.asked.line r.gathered (effect_of c.args.now r.gathered c.in-Some.asked.line (asked_by c.in-Some.asked.head (fields_read c.next_item.new.lines))) c.put_asked.new.self
+    (rw same at (c.in_err-put_asked.ensures c.args.workers r.gathered r.gathers))))
 
 pub returns-then-not-branch-clause-phase : goal.returns-then-not-branch-clause-phase
 returns-then-not-branch-clause-phase g c =
     let r = c.lines.invariant.reached in
-    let is : IsPhaseOf c.put_item.new.self true (not c.next_item.new.unread.ended) c.finish-phase.result =
+    let is : IsPhaseOf c.put_asked.new.self true (not c.next_item.new.unread.ended) c.finish-phase.result =
     record { threads = c.finish-phase.ensures.threads; synced = c.finish-phase.ensures.synced; more = c.finish-phase.ensures.more } in
     given-sync c.args.workers c.args.now c.args.r.unread c.lines.unread
     (g.S.Source.left c.args.src.now) (g.S.Source.left c.lines.src) (g.S.Source.left c.next_item.new.src) _ _ _
-    c.lines.gather c.put_item.new.self c.in-Some.asked c.next_item.new.unread c.finish-phase.result r (rw c.in-Some.is at c.in_ok-asked.ensures.item)
-    (rw c.if-not-branch.true at (c.in_ok-put_item.ensures c.args.workers r.gathered r.gathers)) is
+    c.lines.gather c.put_asked.new.self c.in-Some.asked (asked_by c.in-Some.asked.head (fields_read c.next_item.new.lines)) c.next_item.new.unread c.finish-phase.result r (rw c.in-Some.is at c.in_ok-asked.ensures.item)
+    (rw c.if-not-branch.true at (c.in_ok-put_asked.ensures c.args.workers r.gathered r.gathers)) is
 
 pub returns-then-not-branch-clause-passed : goal.returns-then-not-branch-clause-passed
 returns-then-not-branch-clause-passed g c =
     let r = c.lines.invariant.reached in
-    let is : IsPhaseOf c.put_item.new.self true (not c.next_item.new.unread.ended) c.finish-phase.result =
+    let is : IsPhaseOf c.put_asked.new.self true (not c.next_item.new.unread.ended) c.finish-phase.result =
     record { threads = c.finish-phase.ensures.threads; synced = c.finish-phase.ensures.synced; more = c.finish-phase.ensures.more } in
     HasPassed-sync c.args.workers c.args.now c.args.r.unread c.lines.unread c.next_item.new.unread
     (g.S.Source.left c.args.src.now) (g.S.Source.left c.lines.src) (g.S.Source.left c.next_item.new.src) _ _ _
-    c.lines.gather c.put_item.new.self c.in-Some.asked c.finish-phase.result c.requires.some r (rw c.in-Some.is at c.in_ok-asked.ensures.item)
-    (rw c.if-not-branch.true at (c.in_ok-put_item.ensures c.args.workers r.gathered r.gathers)) is
+    c.lines.gather c.put_asked.new.self c.in-Some.asked (asked_by c.in-Some.asked.head (fields_read c.next_item.new.lines)) c.finish-phase.result c.requires.some r (rw c.in-Some.is at c.in_ok-asked.ensures.item)
+    (rw c.if-not-branch.true at (c.in_ok-put_asked.ensures c.args.workers r.gathered r.gathers)) is
 
 pub returns-then-not-branch-clause-end : goal.returns-then-not-branch-clause-end
 returns-then-not-branch-clause-end g c = λ rightly.
@@ -100,8 +101,8 @@ lines-preserved g c =
       reached =
           Reached-more c.args.workers c.args.now c.args.r.unread c.lines.unread c.next_item.new.unread
           (g.S.Source.left c.args.src.now) (g.S.Source.left c.lines.src) (g.S.Source.left c.next_item.new.src) _ _ _
-          c.lines.gather c.put_item.new.self c.in-Some.asked r (rw c.in-Some.is at c.in_ok-asked.ensures.item)
-          (rw c.if-not-branch.false at (c.in_ok-put_item.ensures c.args.workers r.gathered r.gathers));
+          c.lines.gather c.put_asked.new.self c.in-Some.asked (asked_by c.in-Some.asked.head (fields_read c.next_item.new.lines)) r (rw c.in-Some.is at c.in_ok-asked.ensures.item)
+          (rw c.if-not-branch.false at (c.in_ok-put_asked.ensures c.args.workers r.gathered r.gathers));
       later = omega (arith, c.lines.invariant.later, c.in_ok-asked.ensures.later);
     }
 

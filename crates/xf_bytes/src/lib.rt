@@ -1,0 +1,9 @@
+//! Runs of bytes: how many bytes from the first on are of a kind.
+#![tactic(auto)]
+
+mod runs;
+
+pub use runs::{feedless_count, mild_count};
+
+#[cfg(test)]
+mod tests;

@@ -1,5 +1,0 @@
-use Rattle.std.proofs.Common.{length}
-use Rattle.xf_grammar.proofs.head.+read_head.Given as goal
-
-abbrev pub decreases-read_head : goal.decreases-read_head
-decreases-read_head l = length l.words.now
