@@ -1,9 +1,9 @@
-//! Calls of std's readers and writers that are made again where a signal interrupts them, as std's own loops do.
-ghost use Rattle.std.specs.Io.{ReadsAtMost, WritesAtMost};
-ghost use Rattle.std.specs.Io.KnownBytes.{ReadConsumes, WriteAppends};
+//! Calls of std's readers that are made again where a signal interrupts them, as std's own loops do.
+ghost use Rattle.std.specs.Io.{ReadsAtMost};
+ghost use Rattle.std.specs.Io.KnownBytes.{ReadConsumes};
 
 use std::io;
-use std::io::{ErrorKind, Read, Write};
+use std::io::{ErrorKind, Read};
 
 // How often in a row a call is made. The last interruption then is an error like any other.
 const TRIES: u32 = 1_024;
@@ -19,17 +19,4 @@ pub(crate) fn read_again<R: Read>(inner: &mut R, buf: &mut [u8]) -> io::Result<u
         }
     }
     inner.read(buf)
-}
-
-pub(crate) fn write_again<W: Write>(inner: &mut W, bytes: &[u8]) -> io::Result<usize>
-    ensures bound { WritesAtMost result bytes.now }
-    ensures bytes { WriteAppends (W.contents inner.old) (W.contents inner.new) result bytes.now }
-{
-    for _ in 1..TRIES {
-        match inner.write(bytes) {
-            Err(error) if error.kind() == ErrorKind::Interrupted => {}
-            result => return result,
-        }
-    }
-    inner.write(bytes)
 }

@@ -5,7 +5,7 @@ use std::alloc::{AllocError, Global};
 use std::env;
 use std::process::ExitCode;
 use std::rt::Env;
-use xf_io::{OpenGate, StdClock, StdSink, StdSource};
+use xf_io::{Collected, CollectingSink, Failed, OpenGate, StdClock, WaitingSource};
 use xf_types::Status;
 
 /// The command words, without the program's name. Arguments that can't be read are none, which is no command.
@@ -21,14 +21,22 @@ fn words<R: Env + AllocGlobal>(rt: &R, alloc: Global) -> Result<Vec<String>, All
 
 fn main(rt: HostRuntime) -> ExitCode {
     let alloc = rt.alloc();
-    let mut src = StdSource::new(rt.stdin());
-    let mut out = StdSink::new(rt.stdout());
+    let Ok(collected) = Collected::new(alloc, rt.stdout()) else {
+        return ExitCode::from(Status::NoMemory.code());
+    };
+    let mut src = WaitingSource::new(rt.stdin(), &collected);
+    let mut out = CollectingSink::new(&collected);
     let mut clock = StdClock::new(&rt);
     let status = match words(&rt, alloc) {
         Ok(words) => xf_run::top(
             &rt, alloc, &words, &mut src, &mut out, &mut clock, &OpenGate,
         ),
         Err(_) => Status::NoMemory,
+    };
+    // A write that fails late is told here, whatever the status was.
+    let status = match collected.end() {
+        Ok(()) => status,
+        Err(Failed) => Status::WriteFault,
     };
     ExitCode::from(status.code())
 }
