@@ -12,6 +12,10 @@ abbrev pub mild_count : List ℕ → ℕ
 mild_count [] = 0
 mild_count (b ∷ bs) = if is_mild b then 1 + mild_count bs else 0
 
+-- a byte other than a line feed
+abbrev pub is_feedless : ℕ → Bool
+is_feedless b = not (b == 10)
+
 -- how many bytes from the first on are no line feed
 abbrev pub feedless_count : List ℕ → ℕ
 feedless_count [] = 0
