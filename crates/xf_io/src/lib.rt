@@ -3,7 +3,6 @@
 
 mod clock;
 mod collected;
-mod collecting_sink;
 mod gate;
 mod mem_sink;
 mod mem_source;
@@ -12,17 +11,18 @@ mod retry;
 mod sink;
 mod source;
 mod std_clock;
+mod std_sink;
+mod std_source;
 #[cfg(test)]
 mod tests;
-mod waiting_source;
 
 pub use clock::{Clock, ListClock};
 pub use collected::Collected;
-pub use collecting_sink::CollectingSink;
 pub use gate::{Gate, OpenGate};
 pub use mem_sink::MemSink;
 pub use mem_source::MemSource;
 pub use sink::Sink;
 pub use source::{Failed, Source};
 pub use std_clock::StdClock;
-pub use waiting_source::WaitingSource;
+pub use std_sink::StdSink;
+pub use std_source::StdSource;

@@ -5,7 +5,7 @@ use std::alloc::{AllocError, Global};
 use std::env;
 use std::process::ExitCode;
 use std::rt::Env;
-use xf_io::{Collected, CollectingSink, Failed, OpenGate, StdClock, WaitingSource};
+use xf_io::{Collected, Failed, OpenGate, StdClock, StdSink, StdSource};
 use xf_types::Status;
 
 /// The command words, without the program's name. Arguments that can't be read are none, which is no command.
@@ -24,8 +24,8 @@ fn main(rt: HostRuntime) -> ExitCode {
     let Ok(collected) = Collected::new(alloc, rt.stdout()) else {
         return ExitCode::from(Status::NoMemory.code());
     };
-    let mut src = WaitingSource::new(rt.stdin(), &collected);
-    let mut out = CollectingSink::new(&collected);
+    let mut src = StdSource::new(rt.stdin(), &collected);
+    let mut out = StdSink::new(&collected);
     let mut clock = StdClock::new(&rt);
     let status = match words(&rt, alloc) {
         Ok(words) => xf_run::top(

@@ -2,10 +2,10 @@
 ghost use Rattle.std.specs.Prelude.{◌≤◌, IfOk};
 
 use super::*;
-use crate::collecting_sink::CollectingSink;
 use crate::sink::Sink;
 use crate::source::Source;
-use crate::waiting_source::WaitingSource;
+use crate::std_sink::StdSink;
+use crate::std_source::StdSource;
 use std::cell::Cell;
 use std::test::Fail;
 
@@ -88,8 +88,8 @@ fn lines_are_handed_on_before_a_read_and_at_the_end(rt: HostRuntime) -> Result<(
         text: &nothing,
     };
     let collected = Collected::new(rt.alloc(), writer)?;
-    let mut source = WaitingSource::new(reader, &collected);
-    let mut sink = CollectingSink::new(&collected);
+    let mut source = StdSource::new(reader, &collected);
+    let mut sink = StdSink::new(&collected);
     let mut buf = [0u8; 4];
 
     assert_eq!(rt; sink.write(b"1: ok\n"), Ok(6));
@@ -124,7 +124,7 @@ fn what_has_no_room_goes_out(rt: HostRuntime) -> Result<(), Fail> {
             text: &text,
         },
     )?;
-    let mut sink = CollectingSink::new(&collected);
+    let mut sink = StdSink::new(&collected);
 
     for _ in 0..65 {
         assert_eq!(rt; sink.write(front(&large, 1_000)), Ok(1_000));
@@ -160,8 +160,8 @@ fn after_a_failed_write_all_fails(rt: HostRuntime) -> Result<(), Fail> {
             text: &nothing,
         };
         let collected = Collected::new(rt.alloc(), writer)?;
-        let mut source = WaitingSource::new(reader, &collected);
-        let mut sink = CollectingSink::new(&collected);
+        let mut source = StdSource::new(reader, &collected);
+        let mut sink = StdSink::new(&collected);
 
         assert_eq!(rt; sink.write(b"abcdef"), Ok(6));
         assert_eq!(rt; source.read(&mut [0u8; 4]), Err(Failed));
@@ -195,8 +195,8 @@ fn interrupted_calls_are_made_again(rt: HostRuntime) -> Result<(), Fail> {
         text: &nothing,
     };
     let collected = Collected::new(rt.alloc(), writer)?;
-    let mut source = WaitingSource::new(reader, &collected);
-    let mut sink = CollectingSink::new(&collected);
+    let mut source = StdSource::new(reader, &collected);
+    let mut sink = StdSink::new(&collected);
     let mut buf = [0u8; 4];
 
     assert_eq!(rt; sink.write(b"abc"), Ok(3));
@@ -211,7 +211,7 @@ fn interrupted_calls_are_made_again(rt: HostRuntime) -> Result<(), Fail> {
         text: &nothing,
     };
     assert_eq!(rt;
-        WaitingSource::new(reader, &collected).read(&mut buf),
+        StdSource::new(reader, &collected).read(&mut buf),
         Err(Failed)
     );
     assert_eq!(rt; collected.end(), Ok(()));

@@ -13,12 +13,12 @@ use std::marker::Model;
 /// Collects what it is offered, and takes each piece whole. A write that fails late fails a later piece, or the end. What it
 /// takes isn't told.
 #[derive(Drop)]
-pub struct CollectingSink<'a, W: Write + Drop> {
+pub struct StdSink<'a, W: Write + Drop> {
     collected: &'a Collected<W>,
     faults: u64,
 }
 
-impl<'a, W: Write + Drop> Model for CollectingSink<'a, W> {
+impl<'a, W: Write + Drop> Model for StdSink<'a, W> {
     ghost use Rattle.std.specs.Prelude.{ℕ};
 
     ghost Value = { ℕ };
@@ -26,19 +26,19 @@ impl<'a, W: Write + Drop> Model for CollectingSink<'a, W> {
     ghost view = { λ s. s.faults };
 }
 
-impl<'a, W: Write + Drop> CollectingSink<'a, W> {
+impl<'a, W: Write + Drop> StdSink<'a, W> {
     /// Contracts see its count of faults.
-    pub fn new(collected: &'a Collected<W>) -> CollectingSink<'a, W>
+    pub fn new(collected: &'a Collected<W>) -> StdSink<'a, W>
         ensures { result ≡ 0 }
     {
-        CollectingSink {
+        StdSink {
             collected,
             faults: 0,
         }
     }
 }
 
-impl<'a, W: Write + Drop> Sink for CollectingSink<'a, W> {
+impl<'a, W: Write + Drop> Sink for StdSink<'a, W> {
     ghost text = { λ _. None };
 
     ghost faults = { λ count. count };

@@ -12,13 +12,13 @@ use std::marker::Model;
 /// Reads from one of std's readers, each time once all that was collected is handed on. Where that failed, so does the read,
 /// and no more is read. What it gives isn't told.
 #[derive(Drop)]
-pub struct WaitingSource<'a, R: Read + Drop, W: Write + Drop> {
+pub struct StdSource<'a, R: Read + Drop, W: Write + Drop> {
     reader: R,
     collected: &'a Collected<W>,
     faults: u64,
 }
 
-impl<'a, R: Read + Drop, W: Write + Drop> Model for WaitingSource<'a, R, W> {
+impl<'a, R: Read + Drop, W: Write + Drop> Model for StdSource<'a, R, W> {
     ghost use Rattle.std.specs.Prelude.{ℕ};
 
     ghost Value = { ℕ };
@@ -26,12 +26,12 @@ impl<'a, R: Read + Drop, W: Write + Drop> Model for WaitingSource<'a, R, W> {
     ghost view = { λ s. s.faults };
 }
 
-impl<'a, R: Read + Drop, W: Write + Drop> WaitingSource<'a, R, W> {
+impl<'a, R: Read + Drop, W: Write + Drop> StdSource<'a, R, W> {
     /// Contracts see its count of faults.
-    pub fn new(reader: R, collected: &'a Collected<W>) -> WaitingSource<'a, R, W>
+    pub fn new(reader: R, collected: &'a Collected<W>) -> StdSource<'a, R, W>
         ensures { result ≡ 0 }
     {
-        WaitingSource {
+        StdSource {
             reader,
             collected,
             faults: 0,
@@ -39,7 +39,7 @@ impl<'a, R: Read + Drop, W: Write + Drop> WaitingSource<'a, R, W> {
     }
 }
 
-impl<'a, R: Read + Drop, W: Write + Drop> Source for WaitingSource<'a, R, W> {
+impl<'a, R: Read + Drop, W: Write + Drop> Source for StdSource<'a, R, W> {
     ghost left = { λ _. None };
 
     ghost faults = { λ count. count };
