@@ -2,6 +2,7 @@ pub mod Lines
 pub mod Threads
 pub mod Gathered
 pub mod Walking
+pub mod Runs
 pub mod LongLines
 pub mod Finding
 pub mod Taking

@@ -1,7 +1,8 @@
 -- What is known of a logical line whose end isn't found yet.
 use Rattle.std.specs.Prelude.{◌≡◌, ℕ, ◌+◌, ◌<◌, ◌≤◌, true, false, List, [], ◌∷◌, ◌++◌, length, take}
+use Rattle.xf_bytes.specs.Runs.{feedless_count, mild_count}
 use Rattle.xf_lex.specs.declared.quoting.Quoting.{Quoting}
-use Rattle.xf_lex.specs.declared.quoting.Quoting.TheVariants.{Bare}
+use Rattle.xf_lex.specs.declared.quoting.Quoting.TheVariants.{Bare, Single, Double, Comment, BareSlash, SingleSlash, DoubleSlash}
 use Rattle.xf_lex.specs.Lines.{line_limit}
 use Rattle.xf_lex.specs.LogicalLines.{lines_of}
 use Rattle.xf_lex.specs.Quotes.{after, counted}
@@ -41,3 +42,13 @@ abbrev pub Walks : List ℕ → List ℕ → LineScan → Walked → Type 0
 Walks front piece s (walked.Ends n) = (0 < n) × (n ≤ length piece) × IsWholeLine (front ++ take n piece) × (has_feed (front ++ take n piece) ≡ true)
 Walks front piece s walked.Long = (n : ℕ) × (n ≤ length piece) × IsLongFront (front ++ take n piece)
 Walks front piece s walked.GoesOn = Scans (front ++ piece) s
+
+-- how many bytes from the first on are known to leave what stands behind them as it is, and to count for one each
+abbrev pub steady_count : Quoting → List ℕ → ℕ
+steady_count Bare bytes = mild_count bytes
+steady_count Single bytes = 0
+steady_count Double bytes = 0
+steady_count Comment bytes = feedless_count bytes
+steady_count BareSlash bytes = 0
+steady_count SingleSlash bytes = 0
+steady_count DoubleSlash bytes = 0

@@ -2,6 +2,7 @@
 ghost use Rattle.std.specs.Prelude.{◌≡◌, ◌↔◌, ◌<◌, ◌≤◌, ◌^◌, IfSome, IsNone, length};
 ghost use Rattle.xf_batch.specs.LineEnds.{IsLineEnd, IsUnfinished, ends_at, lines_in};
 
+use xf_bytes::feedless_count;
 use xf_lex::{Quoting, count_physical};
 
 /// The extent of a logical line: its bytes with its line feeds, and how many physical lines it has.
@@ -58,5 +59,9 @@ pub(crate) fn count_lines(line: &[u8]) -> u64
     ensures count { result ≡ lines_in line.now }
     ensures few { result ≤ length line.now }
 {
-    1 + count_physical(&line[..line.len() - 1]) as u64
+    let front = &line[..line.len() - 1];
+    if feedless_count(front) == front.len() {
+        return 1;
+    }
+    1 + count_physical(front) as u64
 }
