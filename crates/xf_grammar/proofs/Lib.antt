@@ -1,1 +1,2 @@
 pub mod HexValues
+pub mod GivenLaws

@@ -5,3 +5,4 @@ pub mod Numbers
 pub mod Grammar
 pub mod Seen
 pub mod Lookups
+pub mod Given

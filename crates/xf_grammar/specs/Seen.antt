@@ -16,7 +16,7 @@ uses us = map use_of us
 -- what is known
 abbrev pub seen : Held → Progress
 seen s = record {
-  fields = s.fields.items;
+  fields = s.fields;
   group = s.group;
   opened = s.opened;
   following = s.following;

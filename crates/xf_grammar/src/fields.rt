@@ -6,6 +6,7 @@ ghost use Rattle.xf_grammar.specs.Grammar.{row_in, row_among, row_of, was_used, 
 ghost use Rattle.xf_grammar.specs.Seen.{seen, uses};
 ghost use Rattle.xf_grammar.specs.Tables.{rows_of};
 
+use crate::given::Fields;
 use crate::keyword::Keyword;
 use crate::row::{Arg, Args, Field, Row, Slot, Table, Value};
 use crate::tables::rows_in;
@@ -24,7 +25,7 @@ pub(crate) struct Used {
 /// What is known between two words.
 #[derive(Debug, Drop)]
 pub struct Progress {
-    pub fields: Vec<Field>,
+    pub fields: Fields,
     group: u32,
     opened: u32,
     following: Table,
@@ -90,7 +91,7 @@ impl Progress {
         ensures { seen result ≡ start args.None }
     {
         Progress {
-            fields: Vec::new(alloc),
+            fields: Fields::new(alloc),
             group: 0,
             opened: 0,
             following: Table::None,
@@ -237,7 +238,7 @@ impl Progress {
     }
 
     fn end(&self) -> Result<(), LineFault>
-        ensures { Gives (λ _. self.now.fields.items) result (ended self.now.fields.items self.now.pending) }
+        ensures { Gives (λ _. self.now.fields) result (ended self.now.fields self.now.pending) }
     {
         match self.pending {
             Args::None => Ok(()),
@@ -253,7 +254,7 @@ impl Progress {
         first: Args,
         mut words: Words,
     ) -> Result<(), LineFault>
-        ensures { Gives (λ _. self.new.fields.items) result (fields_of tables.now first (left words.entry)) }
+        ensures { Gives (λ _. self.new.fields) result (fields_of tables.now first (left words.entry)) }
     {
         self.reset(first);
         'words: while let Some(word) = words.next() {

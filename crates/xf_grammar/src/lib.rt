@@ -3,6 +3,7 @@
 
 mod fields;
 mod flow_tables;
+mod given;
 mod head;
 mod keyword;
 mod lookup;
@@ -14,6 +15,7 @@ mod template_tables;
 mod values;
 
 pub use fields::Progress;
+pub use given::Fields;
 pub use head::{Head, HeadTable, read_head};
 pub use lookup::{
     OWN, action_in, addr_at, addr_in_group, dir_in, has, has_any, has_in_group, icv_in, ipsec_in,

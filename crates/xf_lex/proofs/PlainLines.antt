@@ -1,10 +1,10 @@
 -- The words of a plain line stand between the gaps of its front.
-use Rattle.std.proofs.Common.{◌≡◌, ℕ, ◌+◌, ◌≤◌, ◌==◌, Bool, true, false, ◌&&◌, ◌||◌, ◌⊎◌, inl, inr, refl, sym, ap, subst, ◌∙◌, arith, List, [], ◌∷◌, ◌++◌, append_assoc, append-nil, length, take, drop, Option, None, Some, Ok, nat_lt, eqb}
+use Rattle.std.proofs.Common.{◌≡◌, ℕ, ◌+◌, ◌≤◌, Bool, true, false, ◌&&◌, ◌||◌, ◌⊎◌, inl, inr, refl, sym, ap, subst, ◌∙◌, arith, List, [], ◌∷◌, ◌++◌, append_assoc, append-nil, length, take, drop, Option, None, Some, Ok, nat_lt, eqb}
 use Rattle.std.proofs.lemmas.Bool.Decides.{nat_tests}
 use Rattle.xf_lex.specs.declared.quoting.Quoting.{Quoting}
 use Rattle.xf_lex.specs.declared.quoting.Quoting.TheVariants.{Bare, Comment}
 use Rattle.xf_lex.specs.Lexing.{Word, Lexed, close, closed, is_blank, keep, onto, bare_turn}
-use Rattle.xf_lex.specs.Lines.{Scanned, scan_turn, scanned_from, line_start, words_of}
+use Rattle.xf_lex.specs.Lines.{Scanned, scan_turn, scanned_from, words_of}
 use Rattle.xf_lex.specs.Quotes.{is_plain, counted, is_strange}
 use Rattle.xf_bytes.specs.Runs.{is_mild, mild_count}
 use Rattle.xf_lex.specs.Plain.{is_gap, split_from, split, is_empty, is_end}

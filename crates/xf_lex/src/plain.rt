@@ -22,6 +22,7 @@ fn is_end(bytes: &[u8]) -> bool
 
 /// The front of a plain line, behind which there is its comment, its line feed, or nothing: its words stand between the blanks
 /// of it.
+#[tactic(auto, using(crate::proofs::PlainLines::front_words))]
 pub fn plain_front(bytes: &[u8]) -> Option<&[u8]>
     ensures { IfSome result (λ front. words_of bytes.now ≡ Ok (split front.now)) }
 {

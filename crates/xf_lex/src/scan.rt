@@ -124,11 +124,7 @@ impl Scan {
     }
 
     /// The words of a logical line: those of a plain line where they stand, and those of any other as they were listed.
-    pub fn words<'a>(
-        &'a mut self,
-        alloc: Global,
-        bytes: &'a [u8],
-    ) -> Result<Words<'a>, LineFault>
+    pub fn words<'a>(&'a mut self, alloc: Global, bytes: &'a [u8]) -> Result<Words<'a>, LineFault>
         ensures { Gives left result (words_of bytes.now) }
     {
         if let Some(front) = plain_front(bytes) {

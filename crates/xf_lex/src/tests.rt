@@ -42,6 +42,45 @@ const WORDS: [(&[u8], &[u8]); 34] = [
     (b"!~ ~!\n", b"!~|~!|"),
 ];
 
+// Plain lines, with their fronts.
+const FRONTS: [(&[u8], &[u8]); 16] = [
+    (b"", b""),
+    (b"\n", b""),
+    (b"#", b""),
+    (b"# x\n", b""),
+    (b"#\x00\x80\xff'\"\\\n", b""),
+    (b" \t ", b" \t "),
+    (b"xfrm", b"xfrm"),
+    (b"\txfrm  policy \t count \n", b"\txfrm  policy \t count "),
+    (b"a # b\n", b"a "),
+    (b"a# b", b"a"),
+    (b"a#b c\n", b"a"),
+    (b"##", b""),
+    (b"a #\nb\n", b"a "),
+    (b"a #\\\nb", b"a "),
+    (b"a #\r\x7f", b"a "),
+    (b"!~ ~!\n", b"!~ ~!"),
+];
+
+// Lines that go through the lexer.
+const NOT_PLAIN: [&[u8]; 15] = [
+    b"''",
+    b"\"\"",
+    b"a'b",
+    b"a \"b\"\n",
+    b"a 'b' # c",
+    b"\\",
+    b"a\\b",
+    b"a\\\nb",
+    b"a\\\n",
+    b"a\r\n",
+    b"a\x7f",
+    b"a\x00",
+    b"\x80",
+    b"a\nb",
+    b"\n\n",
+];
+
 // A logical line's own faults: byte, cut, quote, in this order.
 const FAULTS: [(&[u8], Reason); 21] = [
     (b"\x80", Reason::Byte),
@@ -84,9 +123,9 @@ const INPUTS: [(&[u8], &[usize]); 12] = [
 ];
 
 // The words, each ended by a bar.
-fn barred(alloc: Global, words: &[Vec<u8>]) -> Result<Vec<u8>, Fail> {
+fn barred(alloc: Global, mut words: Words) -> Result<Vec<u8>, Fail> {
     let mut text = Vec::new(alloc);
-    for word in words {
+    while let Some(word) = words.next() {
         text.extend_from_slice(word)?;
         text.push(b'|')?;
     }
@@ -98,8 +137,48 @@ fn lines_have_their_words(rt: HostRuntime) -> Result<(), Fail> {
     let mut scan = Scan::new(rt.alloc());
     for (line, words) in WORDS {
         assert_eq!(rt; scan.read_words(rt.alloc(), line), Ok(()));
-        let text = barred(rt.alloc(), &scan.lexer.words)?;
+        let text = barred(rt.alloc(), Words::Listed(&scan.lexer.words))?;
         assert_eq!(rt; text.as_slice(), words);
+        let text = barred(rt.alloc(), scan.words(rt.alloc(), line)?)?;
+        assert_eq!(rt; text.as_slice(), words);
+    }
+    Ok(())
+}
+
+#[test]
+fn plain_lines_have_their_front(rt: HostRuntime) {
+    for (line, front) in FRONTS {
+        assert_eq!(rt; plain_front(line), Some(front));
+    }
+    for line in NOT_PLAIN {
+        assert!(rt; plain_front(line).is_none());
+    }
+}
+
+// The words of a plain line aren't listed.
+#[test]
+fn plain_lines_are_split_where_they_stand(rt: HostRuntime) -> Result<(), Fail> {
+    let mut scan = Scan::new(rt.alloc());
+    for (line, _) in FRONTS {
+        assert!(rt; matches!(scan.words(rt.alloc(), line)?, Words::Plain(_)));
+    }
+    assert!(rt; scan.lexer.words.is_empty());
+    Ok(())
+}
+
+#[test]
+fn a_plain_line_has_at_most_4096_bytes(rt: HostRuntime) -> Result<(), Fail> {
+    let lines: [(usize, &[u8], bool); 6] = [
+        (4096, b"", true),
+        (4095, b"\n", true),
+        (4094, b"#\x80", true),
+        (4097, b"", false),
+        (4096, b"\n", false),
+        (4095, b"#\x80", false),
+    ];
+    for (count, back, plain) in lines {
+        let line = padded(rt.alloc(), count, back)?;
+        assert_eq!(rt; plain_front(&line).is_some(), plain);
     }
     Ok(())
 }

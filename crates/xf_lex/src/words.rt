@@ -39,6 +39,7 @@ impl<'a> Words<'a> {
     ghost use Rattle.xf_lex.specs.Plain.{left};
 
     /// Whether no word is left.
+    #[tactic(auto, using(crate::proofs::Splits::gaps_alone))]
     pub fn is_empty(&self) -> bool
         ensures { result ≡ (length (left self.now) == 0) }
     {
@@ -49,6 +50,7 @@ impl<'a> Words<'a> {
     }
 
     /// The next word, if one is left.
+    #[tactic(auto, using(crate::proofs::Splits::first_word, crate::proofs::Splits::no_word))]
     pub fn next(&mut self) -> Option<&'a [u8]>
         ensures { MatchOption result (left self.old ≡ []) (λ word. left self.old ≡ word.now ∷ left self.new) }
     {

@@ -32,7 +32,7 @@ line_item bytes = words_of bytes >>= words_item
 
 -- the fields of the line that was read last
 abbrev pub fields_read : LineReader → List Field
-fields_read reader = reader.progress.fields.items
+fields_read reader = reader.progress.fields
 
 -- what a head asks for with its fields; a line without words is nothing
 abbrev pub asked_by : Option Head → List Field → Result Item Reason

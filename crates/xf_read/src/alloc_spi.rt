@@ -4,7 +4,7 @@ ghost use Rattle.xf_read.specs.Allocs as rule;
 
 use crate::mark::mark_of;
 use crate::selector::{judge_family, source_or_zero};
-use xf_grammar::{Field, Slot, addr_at, ipsec_in, mode_in, u32_at};
+use xf_grammar::{Fields, Slot, addr_at, ipsec_in, mode_in, u32_at};
 use xf_types::{Addr, AllocSpec, Mode, Proto, Reason};
 
 // The SPIs below are reserved (RFC 4303, 2.1).
@@ -21,7 +21,7 @@ fn greatest_spi(proto: Proto) -> u32
 }
 
 /// A request between these addresses.
-fn alloc_with(src: Addr, dst: Addr, proto: Proto, fields: &[Field]) -> AllocSpec
+fn alloc_with(src: Addr, dst: Addr, proto: Proto, fields: &Fields) -> AllocSpec
     ensures { result ≡ rule.alloc_with src dst proto fields.now }
 {
     AllocSpec {
@@ -39,7 +39,7 @@ fn alloc_with(src: Addr, dst: Addr, proto: Proto, fields: &[Field]) -> AllocSpec
 
 /// The request that a line makes.
 #[tactic(auto, unfolding(crate::specs::Allocs::alloc_of))]
-pub(crate) fn read_alloc(fields: &[Field]) -> Result<AllocSpec, Reason>
+pub(crate) fn read_alloc(fields: &Fields) -> Result<AllocSpec, Reason>
     ensures { result ≡ rule.alloc_of fields.now }
 {
     let dst = addr_at(fields, Slot::Dst).ok_or(Reason::Missing)?;

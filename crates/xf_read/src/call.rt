@@ -12,7 +12,7 @@ use crate::state::{read_sa, read_sa_filter, read_sa_id};
 use crate::thresholds::read_thresholds;
 use crate::tick::read_tick;
 use crate::worker::read_worker;
-use xf_grammar::{Field, Head, ipsec_in, ptype_in};
+use xf_grammar::{Fields, Head, ipsec_in, ptype_in};
 use xf_types::{Call, Dir, Reason};
 
 // Each kind of call has a function of its own that isn't inlined: a function clears all its locals where it begins, and a line
@@ -20,7 +20,7 @@ use xf_types::{Call, Dir, Reason};
 
 #[inline(never)]
 #[tactic(auto, unfolding(crate::specs::Calls::asked_of))]
-fn policy_add(fields: &[Field]) -> Result<Item, Reason>
+fn policy_add(fields: &Fields) -> Result<Item, Reason>
     ensures { result ≡ rule.asked_of head.PolicyAdd fields.now }
 {
     Ok(Item::One(Call::PolicyAdd(read_spec(fields)?)))
@@ -28,7 +28,7 @@ fn policy_add(fields: &[Field]) -> Result<Item, Reason>
 
 #[inline(never)]
 #[tactic(auto, unfolding(crate::specs::Calls::asked_of))]
-fn policy_update(fields: &[Field]) -> Result<Item, Reason>
+fn policy_update(fields: &Fields) -> Result<Item, Reason>
     ensures { result ≡ rule.asked_of head.PolicyUpdate fields.now }
 {
     Ok(Item::One(Call::PolicyUpdate(read_spec(fields)?)))
@@ -36,7 +36,7 @@ fn policy_update(fields: &[Field]) -> Result<Item, Reason>
 
 #[inline(never)]
 #[tactic(auto, unfolding(crate::specs::Calls::asked_of))]
-fn policy_delete(fields: &[Field]) -> Result<Item, Reason>
+fn policy_delete(fields: &Fields) -> Result<Item, Reason>
     ensures { result ≡ rule.asked_of head.PolicyDelete fields.now }
 {
     Ok(Item::One(Call::PolicyDelete(read_key(fields)?)))
@@ -44,7 +44,7 @@ fn policy_delete(fields: &[Field]) -> Result<Item, Reason>
 
 #[inline(never)]
 #[tactic(auto, unfolding(crate::specs::Calls::asked_of))]
-fn policy_get(fields: &[Field]) -> Result<Item, Reason>
+fn policy_get(fields: &Fields) -> Result<Item, Reason>
     ensures { result ≡ rule.asked_of head.PolicyGet fields.now }
 {
     Ok(Item::One(Call::PolicyGet(read_key(fields)?)))
@@ -52,7 +52,7 @@ fn policy_get(fields: &[Field]) -> Result<Item, Reason>
 
 #[inline(never)]
 #[tactic(auto, unfolding(crate::specs::Calls::asked_of))]
-fn policy_delete_all(fields: &[Field]) -> Result<Item, Reason>
+fn policy_delete_all(fields: &Fields) -> Result<Item, Reason>
     ensures { result ≡ rule.asked_of head.PolicyDeleteAll fields.now }
 {
     Ok(Item::One(Call::PolicyDeleteAll(read_filter(fields)?)))
@@ -60,7 +60,7 @@ fn policy_delete_all(fields: &[Field]) -> Result<Item, Reason>
 
 #[inline(never)]
 #[tactic(auto, unfolding(crate::specs::Calls::asked_of))]
-fn policy_list(fields: &[Field]) -> Result<Item, Reason>
+fn policy_list(fields: &Fields) -> Result<Item, Reason>
     ensures { result ≡ rule.asked_of head.PolicyList fields.now }
 {
     Ok(Item::One(Call::PolicyList(read_filter(fields)?)))
@@ -68,7 +68,7 @@ fn policy_list(fields: &[Field]) -> Result<Item, Reason>
 
 #[inline(never)]
 #[tactic(auto, unfolding(crate::specs::Calls::asked_of))]
-fn policy_set(fields: &[Field]) -> Result<Item, Reason>
+fn policy_set(fields: &Fields) -> Result<Item, Reason>
     ensures { result ≡ rule.asked_of head.PolicySet fields.now }
 {
     Ok(Item::One(Call::PolicySet(read_thresholds(fields)?)))
@@ -76,7 +76,7 @@ fn policy_set(fields: &[Field]) -> Result<Item, Reason>
 
 #[inline(never)]
 #[tactic(auto, unfolding(crate::specs::Calls::asked_of))]
-fn state_add(fields: &[Field]) -> Result<Item, Reason>
+fn state_add(fields: &Fields) -> Result<Item, Reason>
     ensures { result ≡ rule.asked_of head.StateAdd fields.now }
 {
     Ok(Item::One(Call::StateAdd(read_sa(fields)?)))
@@ -84,7 +84,7 @@ fn state_add(fields: &[Field]) -> Result<Item, Reason>
 
 #[inline(never)]
 #[tactic(auto, unfolding(crate::specs::Calls::asked_of))]
-fn state_update(fields: &[Field]) -> Result<Item, Reason>
+fn state_update(fields: &Fields) -> Result<Item, Reason>
     ensures { result ≡ rule.asked_of head.StateUpdate fields.now }
 {
     Ok(Item::One(Call::StateUpdate(read_sa(fields)?)))
@@ -92,7 +92,7 @@ fn state_update(fields: &[Field]) -> Result<Item, Reason>
 
 #[inline(never)]
 #[tactic(auto, unfolding(crate::specs::Calls::asked_of))]
-fn state_delete(fields: &[Field]) -> Result<Item, Reason>
+fn state_delete(fields: &Fields) -> Result<Item, Reason>
     ensures { result ≡ rule.asked_of head.StateDelete fields.now }
 {
     Ok(Item::One(Call::StateDelete(read_sa_id(fields)?)))
@@ -100,7 +100,7 @@ fn state_delete(fields: &[Field]) -> Result<Item, Reason>
 
 #[inline(never)]
 #[tactic(auto, unfolding(crate::specs::Calls::asked_of))]
-fn state_get(fields: &[Field]) -> Result<Item, Reason>
+fn state_get(fields: &Fields) -> Result<Item, Reason>
     ensures { result ≡ rule.asked_of head.StateGet fields.now }
 {
     Ok(Item::One(Call::StateGet(read_sa_id(fields)?)))
@@ -108,7 +108,7 @@ fn state_get(fields: &[Field]) -> Result<Item, Reason>
 
 #[inline(never)]
 #[tactic(auto, unfolding(crate::specs::Calls::asked_of))]
-fn state_delete_all(fields: &[Field]) -> Result<Item, Reason>
+fn state_delete_all(fields: &Fields) -> Result<Item, Reason>
     ensures { result ≡ rule.asked_of head.StateDeleteAll fields.now }
 {
     Ok(Item::One(Call::StateDeleteAll(read_sa_filter(fields)?)))
@@ -116,7 +116,7 @@ fn state_delete_all(fields: &[Field]) -> Result<Item, Reason>
 
 #[inline(never)]
 #[tactic(auto, unfolding(crate::specs::Calls::asked_of))]
-fn state_list(fields: &[Field]) -> Result<Item, Reason>
+fn state_list(fields: &Fields) -> Result<Item, Reason>
     ensures { result ≡ rule.asked_of head.StateList fields.now }
 {
     Ok(Item::One(Call::StateList(read_sa_filter(fields)?)))
@@ -124,7 +124,7 @@ fn state_list(fields: &[Field]) -> Result<Item, Reason>
 
 #[inline(never)]
 #[tactic(auto, unfolding(crate::specs::Calls::asked_of))]
-fn alloc_spi(fields: &[Field]) -> Result<Item, Reason>
+fn alloc_spi(fields: &Fields) -> Result<Item, Reason>
     ensures { result ≡ rule.asked_of head.AllocSpi fields.now }
 {
     Ok(Item::One(Call::AllocSpi(read_alloc(fields)?)))
@@ -132,7 +132,7 @@ fn alloc_spi(fields: &[Field]) -> Result<Item, Reason>
 
 #[inline(never)]
 #[tactic(auto, unfolding(crate::specs::Calls::asked_of))]
-fn packet(fields: &[Field]) -> Result<Item, Reason>
+fn packet(fields: &Fields) -> Result<Item, Reason>
     ensures { result ≡ rule.asked_of head.Packet fields.now }
 {
     Ok(Item::One(Call::Packet(read_packet(fields)?)))
@@ -140,7 +140,7 @@ fn packet(fields: &[Field]) -> Result<Item, Reason>
 
 #[inline(never)]
 #[tactic(auto, unfolding(crate::specs::Calls::asked_of))]
-fn flow(dir: Dir, fields: &[Field]) -> Result<Item, Reason>
+fn flow(dir: Dir, fields: &Fields) -> Result<Item, Reason>
     ensures { result ≡ rule.asked_of (head.Flow dir) fields.now }
 {
     Ok(Item::One(Call::Flow(read_flow(dir, fields)?)))
@@ -148,7 +148,7 @@ fn flow(dir: Dir, fields: &[Field]) -> Result<Item, Reason>
 
 /// What a line asks for, by its head and its fields.
 #[tactic(auto, unfolding(crate::specs::Calls::asked_of))]
-pub(crate) fn read_asked(head: Head, fields: &[Field]) -> Result<Item, Reason>
+pub(crate) fn read_asked(head: Head, fields: &Fields) -> Result<Item, Reason>
     ensures { result ≡ rule.asked_of head fields.now }
 {
     match head {

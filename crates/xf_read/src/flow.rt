@@ -4,12 +4,12 @@ ghost use Rattle.xf_read.specs.Flows as rule;
 
 use crate::reader::Item;
 use crate::selector::{dest_port, judge_family, judge_ports, proto_of, source_port};
-use xf_grammar::{Field, OWN, Slot, addr_at, u32_at};
+use xf_grammar::{Fields, OWN, Slot, addr_at, u32_at};
 use xf_types::{Dir, Flow, Reason};
 
 /// The flow that a line asks for.
 #[tactic(auto, unfolding(crate::specs::Flows::flow_of))]
-pub(crate) fn read_flow(dir: Dir, fields: &[Field]) -> Result<Flow, Reason>
+pub(crate) fn read_flow(dir: Dir, fields: &Fields) -> Result<Flow, Reason>
     ensures { result ≡ rule.flow_of dir fields.now }
 {
     let src = addr_at(fields, Slot::Src).ok_or(Reason::Missing)?;
@@ -33,7 +33,7 @@ pub(crate) fn read_flow(dir: Dir, fields: &[Field]) -> Result<Flow, Reason>
 /// The flow along which packets are sent, and their length.
 #[tactic(auto, unfolding(crate::specs::Flows::send_of))]
 #[inline(never)]
-pub(crate) fn read_send(fields: &[Field]) -> Result<Item, Reason>
+pub(crate) fn read_send(fields: &Fields) -> Result<Item, Reason>
     ensures { result ≡ rule.send_of fields.now }
 {
     let flow = read_flow(Dir::Out, fields)?;

@@ -3,7 +3,7 @@ ghost use Rattle.std.specs.Prelude.{◌≡◌};
 ghost use Rattle.xf_read.specs.Identity as rule;
 
 use crate::selector::source_or_zero;
-use xf_grammar::{Field, Slot, addr_at, ipsec_in, u32_at};
+use xf_grammar::{Fields, Slot, addr_at, ipsec_in, u32_at};
 use xf_types::{Addr, Proto, Reason};
 
 /// What identifies a state: a source that is left out is the zero address of the destination's family.
@@ -17,7 +17,7 @@ pub(crate) struct Identity {
 
 /// The identity that a line gives.
 #[tactic(auto, unfolding(crate::specs::Identity::identity_of))]
-pub(crate) fn read_identity(fields: &[Field]) -> Result<Identity, Reason>
+pub(crate) fn read_identity(fields: &Fields) -> Result<Identity, Reason>
     ensures { result ≡ rule.identity_of fields.now }
 {
     let dst = addr_at(fields, Slot::Dst).ok_or(Reason::Missing)?;

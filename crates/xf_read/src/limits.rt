@@ -2,12 +2,12 @@
 ghost use Rattle.std.specs.Prelude.{◌≡◌};
 ghost use Rattle.xf_read.specs.Limits as rule;
 
-use xf_grammar::{Field, Slot, u64_at};
+use xf_grammar::{Fields, Slot, u64_at};
 use xf_types::Limits;
 
 /// The limits that a line gives.
 #[tactic(auto, unfolding(crate::specs::Limits::limits_of))]
-pub(crate) fn limits_of(fields: &[Field]) -> Limits
+pub(crate) fn limits_of(fields: &Fields) -> Limits
     ensures { result ≡ rule.limits_of fields.now }
 {
     Limits {

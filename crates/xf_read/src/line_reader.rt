@@ -22,7 +22,7 @@ pub struct LineReader {
 // Reads the head and the fields of a line's words.
 #[tactic(auto, unfolding(crate::specs::Items::words_item))]
 fn read_words(progress: &mut Progress, mut words: Words) -> Result<Option<Head>, LineFault>
-    ensures { GivesHead result progress.new.fields.items (words_item (left words.entry)) }
+    ensures { GivesHead result progress.new.fields (words_item (left words.entry)) }
 {
     if words.is_empty() {
         return Ok(None);

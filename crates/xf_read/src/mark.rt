@@ -2,7 +2,7 @@
 ghost use Rattle.std.specs.Prelude.{◌≡◌};
 ghost use Rattle.xf_read.specs.Marks as rule;
 
-use xf_grammar::{Field, Slot, u32_at};
+use xf_grammar::{Fields, Slot, u32_at};
 use xf_types::Mark;
 
 fn mark_by(value: Option<u32>, mask: Option<u32>) -> Mark
@@ -18,7 +18,7 @@ fn mark_by(value: Option<u32>, mask: Option<u32>) -> Mark
 }
 
 /// The line's mark.
-pub(crate) fn mark_of(fields: &[Field]) -> Mark
+pub(crate) fn mark_of(fields: &Fields) -> Mark
     ensures { result ≡ rule.mark_of fields.now }
 {
     mark_by(u32_at(fields, Slot::Mark), u32_at(fields, Slot::Mask))

@@ -6,11 +6,11 @@ ghost use Rattle.xf_read.specs.Packets as rule;
 use crate::identity::{Identity, read_identity};
 use crate::selector::judge_family;
 use crate::state::sequence_number;
-use xf_grammar::{Field, Slot, icv_in, u32_at, u64_at};
+use xf_grammar::{Fields, Slot, icv_in, u32_at, u64_at};
 use xf_types::{Packet, Reason};
 
 /// A packet with this number, sent to this state.
-fn packet_with(identity: Identity, seq: u64, fields: &[Field]) -> Packet
+fn packet_with(identity: Identity, seq: u64, fields: &Fields) -> Packet
     ensures { result ≡ rule.packet_with identity seq fields.now }
 {
     Packet {
@@ -27,7 +27,7 @@ fn packet_with(identity: Identity, seq: u64, fields: &[Field]) -> Packet
 
 /// The packet that a line brings.
 #[tactic(auto, unfolding(crate::specs::Packets::packet_of))]
-pub(crate) fn read_packet(fields: &[Field]) -> Result<Packet, Reason>
+pub(crate) fn read_packet(fields: &Fields) -> Result<Packet, Reason>
     ensures { result ≡ rule.packet_of fields.now }
 {
     let identity = read_identity(fields)?;

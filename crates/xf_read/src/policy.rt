@@ -10,7 +10,7 @@ use crate::selector::{
 };
 use crate::template::{judge_templates, read_templates};
 use xf_grammar::{
-    Field, OWN, Slot, action_in, dir_in, has_any, prefix_at, ptype_in, u8_at, u32_at, value_at,
+    Fields, OWN, Slot, action_in, dir_in, has_any, prefix_at, ptype_in, u8_at, u32_at, value_at,
 };
 use xf_types::{
     Action, Dir, PolicyFilter, PolicyKey, PolicySpec, Ptype, Reason, Selector, Templates,
@@ -31,7 +31,7 @@ pub(crate) static SAME_SLOTS: [Slot; 10] = [
 ];
 
 /// A policy of this selector and these templates.
-fn spec_with(dir: Dir, sel: Selector, templates: Templates, fields: &[Field]) -> PolicySpec
+fn spec_with(dir: Dir, sel: Selector, templates: Templates, fields: &Fields) -> PolicySpec
     ensures { result ≡ rule.spec_with dir sel templates fields.now }
 {
     PolicySpec {
@@ -50,7 +50,7 @@ fn spec_with(dir: Dir, sel: Selector, templates: Templates, fields: &[Field]) ->
 
 /// The policy that a line asks for.
 #[tactic(auto, unfolding(crate::specs::Calls::spec_of))]
-pub(crate) fn read_spec(fields: &[Field]) -> Result<PolicySpec, Reason>
+pub(crate) fn read_spec(fields: &Fields) -> Result<PolicySpec, Reason>
     ensures { result ≡ rule.spec_of fields.now }
 {
     let dir = dir_in(fields).ok_or(Reason::Missing)?;
@@ -62,7 +62,7 @@ pub(crate) fn read_spec(fields: &[Field]) -> Result<PolicySpec, Reason>
     Ok(spec_with(dir, sel, templates, fields))
 }
 
-fn index_key(dir: Dir, index: u32, fields: &[Field]) -> Result<PolicyKey, Reason>
+fn index_key(dir: Dir, index: u32, fields: &Fields) -> Result<PolicyKey, Reason>
     ensures { result ≡ rule.index_key dir index fields.now }
 {
     if has_any(fields, &SAME_SLOTS) {
@@ -72,7 +72,7 @@ fn index_key(dir: Dir, index: u32, fields: &[Field]) -> Result<PolicyKey, Reason
 }
 
 #[tactic(auto, unfolding(crate::specs::Calls::same_key))]
-fn same_key(dir: Dir, fields: &[Field]) -> Result<PolicyKey, Reason>
+fn same_key(dir: Dir, fields: &Fields) -> Result<PolicyKey, Reason>
     ensures { result ≡ rule.same_key dir fields.now }
 {
     let sel = read_selector(fields, OWN)?;
@@ -87,7 +87,7 @@ fn same_key(dir: Dir, fields: &[Field]) -> Result<PolicyKey, Reason>
 
 /// The policy that a line names.
 #[tactic(auto, unfolding(crate::specs::Calls::key_of))]
-pub(crate) fn read_key(fields: &[Field]) -> Result<PolicyKey, Reason>
+pub(crate) fn read_key(fields: &Fields) -> Result<PolicyKey, Reason>
     ensures { result ≡ rule.key_of fields.now }
 {
     let dir = dir_in(fields).ok_or(Reason::Missing)?;
@@ -99,7 +99,7 @@ pub(crate) fn read_key(fields: &[Field]) -> Result<PolicyKey, Reason>
 
 /// The conditions that a line gives.
 #[tactic(auto, unfolding(crate::specs::Calls::filter_of))]
-pub(crate) fn read_filter(fields: &[Field]) -> Result<PolicyFilter, Reason>
+pub(crate) fn read_filter(fields: &Fields) -> Result<PolicyFilter, Reason>
     ensures { result ≡ rule.filter_of fields.now }
 {
     let sport = source_port(fields, OWN)?;

@@ -4,7 +4,7 @@ ghost use Rattle.std.specs.Option.{option_map};
 ghost use Rattle.xf_types.specs.Facts.{IsSelector};
 ghost use Rattle.xf_read.specs.Selectors as rule;
 
-use xf_grammar::{Field, Slot, Value, has_in_group, prefix_in_group, u8_in_group, u16_in_group};
+use xf_grammar::{Fields, Slot, Value, has_in_group, prefix_in_group, u8_in_group, u16_in_group};
 use xf_types::{Addr, Prefix, Reason, Selector};
 
 fn one_of(port: Option<u16>, other: Option<u16>) -> Result<Option<u16>, Reason>
@@ -18,7 +18,7 @@ fn one_of(port: Option<u16>, other: Option<u16>) -> Result<Option<u16>, Reason>
 }
 
 /// The source port, or the ICMP type in its place.
-pub(crate) fn source_port(fields: &[Field], group: u32) -> Result<Option<u16>, Reason>
+pub(crate) fn source_port(fields: &Fields, group: u32) -> Result<Option<u16>, Reason>
     ensures { result ≡ rule.source_port group fields.now }
 {
     one_of(
@@ -28,7 +28,7 @@ pub(crate) fn source_port(fields: &[Field], group: u32) -> Result<Option<u16>, R
 }
 
 /// The destination port, or the ICMP code in its place.
-pub(crate) fn dest_port(fields: &[Field], group: u32) -> Result<Option<u16>, Reason>
+pub(crate) fn dest_port(fields: &Fields, group: u32) -> Result<Option<u16>, Reason>
     ensures { result ≡ rule.dest_port group fields.now }
 {
     one_of(
@@ -50,26 +50,26 @@ fn carries_types(proto: u8) -> bool
 }
 
 /// The protocol, 0 where it isn't given.
-pub(crate) fn proto_of(fields: &[Field], group: u32) -> u8
+pub(crate) fn proto_of(fields: &Fields, group: u32) -> u8
     ensures { result ≡ rule.proto_of group fields.now }
 {
     u8_in_group(fields, group, Slot::Proto).unwrap_or(0)
 }
 
-fn has_port(fields: &[Field], group: u32) -> bool
+fn has_port(fields: &Fields, group: u32) -> bool
     ensures { result ≡ rule.has_port group fields.now }
 {
     has_in_group(fields, group, Slot::SourcePort) || has_in_group(fields, group, Slot::DestPort)
 }
 
-fn has_type(fields: &[Field], group: u32) -> bool
+fn has_type(fields: &Fields, group: u32) -> bool
     ensures { result ≡ rule.has_type group fields.now }
 {
     has_in_group(fields, group, Slot::IcmpType) || has_in_group(fields, group, Slot::IcmpCode)
 }
 
 /// Whether what is given fits the protocol.
-pub(crate) fn judge_ports(fields: &[Field], group: u32) -> Result<(), Reason>
+pub(crate) fn judge_ports(fields: &Fields, group: u32) -> Result<(), Reason>
     ensures { result ≡ rule.judged_ports group fields.now }
 {
     let proto = proto_of(fields, group);
@@ -170,7 +170,7 @@ fn selector_between(
 }
 
 /// The source prefix of a group.
-pub(crate) fn src_of(fields: &[Field], group: u32) -> Prefix
+pub(crate) fn src_of(fields: &Fields, group: u32) -> Prefix
     ensures { result ≡ rule.src_of group fields.now }
 {
     end_or(
@@ -179,7 +179,7 @@ pub(crate) fn src_of(fields: &[Field], group: u32) -> Prefix
     )
 }
 
-fn dst_of(fields: &[Field], group: u32) -> Prefix
+fn dst_of(fields: &Fields, group: u32) -> Prefix
     ensures { result ≡ rule.dst_of group fields.now }
 {
     end_or(
@@ -191,7 +191,7 @@ fn dst_of(fields: &[Field], group: u32) -> Prefix
 /// The selector of a group, once its ports are known.
 #[tactic(auto, unfolding(crate::specs::Selectors::selector_with))]
 pub(crate) fn selector_with(
-    fields: &[Field],
+    fields: &Fields,
     group: u32,
     sport: Option<u16>,
     dport: Option<u16>,
@@ -211,7 +211,7 @@ pub(crate) fn selector_with(
 
 /// The selector of a group.
 #[tactic(auto, unfolding(crate::specs::Selectors::selector_of))]
-pub(crate) fn read_selector(fields: &[Field], group: u32) -> Result<Selector, Reason>
+pub(crate) fn read_selector(fields: &Fields, group: u32) -> Result<Selector, Reason>
     ensures { result ≡ rule.selector_of group fields.now }
 {
     let sport = source_port(fields, group)?;

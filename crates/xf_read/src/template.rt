@@ -5,7 +5,7 @@ ghost use Rattle.xf_read.specs.Templates as rule;
 use crate::selector::{judge_family, zero_of};
 use arrayvec::ArrayVec;
 use xf_grammar::{
-    Field, Slot, addr_in_group, has_in_group, ipsec_in_group, level_in_group, mode_in_group,
+    Fields, Slot, addr_in_group, has_in_group, ipsec_in_group, level_in_group, mode_in_group,
     u32_in_group,
 };
 use xf_types::{Addr, Level, Mode, Proto, Reason, Template, Templates};
@@ -21,7 +21,7 @@ fn template_end(given: Option<Addr>, other: Option<Addr>, policy: &Addr) -> Addr
 }
 
 /// A template of this protocol.
-fn template_with(proto: Proto, fields: &[Field], group: u32, policy: &Addr) -> Template
+fn template_with(proto: Proto, fields: &Fields, group: u32, policy: &Addr) -> Template
     ensures { result ≡ rule.template_with proto group policy.now fields.now }
 {
     let src = addr_in_group(fields, group, Slot::Src);
@@ -38,7 +38,7 @@ fn template_with(proto: Proto, fields: &[Field], group: u32, policy: &Addr) -> T
 }
 
 #[tactic(auto, unfolding(crate::specs::Templates::template_of))]
-fn read_template(fields: &[Field], group: u32, policy: &Addr) -> Result<Template, Reason>
+fn read_template(fields: &Fields, group: u32, policy: &Addr) -> Result<Template, Reason>
     ensures { result ≡ rule.template_of group policy.now fields.now }
 {
     let proto = ipsec_in_group(fields, group).ok_or(Reason::Missing)?;
@@ -47,7 +47,7 @@ fn read_template(fields: &[Field], group: u32, policy: &Addr) -> Result<Template
 
 /// The templates of those of the groups that `tmpl` began.
 #[tactic(auto, using(crate::proofs::TemplateLaws::joined_next))]
-fn templates_among(fields: &[Field], groups: &[u32], policy: &Addr) -> Result<Templates, Reason>
+fn templates_among(fields: &Fields, groups: &[u32], policy: &Addr) -> Result<Templates, Reason>
     requires { length groups.now ≤ 6 }
     ensures { result ≡ rule.templates_among groups.now policy.now fields.now }
 {
@@ -61,7 +61,7 @@ fn templates_among(fields: &[Field], groups: &[u32], policy: &Addr) -> Result<Te
 }
 
 /// A line's templates, for a policy of this address's family.
-pub(crate) fn read_templates(fields: &[Field], policy: &Addr) -> Result<Templates, Reason>
+pub(crate) fn read_templates(fields: &Fields, policy: &Addr) -> Result<Templates, Reason>
     ensures { result ≡ rule.templates_of policy.now fields.now }
 {
     templates_among(fields, &BEHIND_TMPL, policy)

@@ -8,6 +8,7 @@ use crate::fault::ReadFault;
 use crate::reader::{Item, Reader};
 use std::alloc::Global;
 use std::test::*;
+use xf_lex::{Words, plain_front};
 use xf_types::{Addr, Call, Prefix, Ptype, Reason, Selector};
 
 pub(crate) const V6_NET: u128 = 0x20010db8 << 96;
@@ -38,6 +39,46 @@ pub(crate) fn every() -> Selector {
     between(v4(0, 0), v4(0, 0))
 }
 
+// The line with quotes round its first word, where it is a plain line that has one.
+fn quoted(alloc: Global, line: &[u8]) -> Result<Option<Vec<u8>>, Fail> {
+    match plain_front(line) {
+        Some(front) if !Words::Plain(front).is_empty() => {}
+        _ => return Ok(None),
+    }
+    let start = line.iter().position(|b| *b > b' ').unwrap_or(0);
+    let (blanks, rest) = line.split_at(start);
+    let end = rest
+        .iter()
+        .position(|b| *b <= b' ' || *b == b'#')
+        .unwrap_or(rest.len());
+    let (word, behind) = rest.split_at(end);
+    let mut text = Vec::from_slice(alloc, blanks)?;
+    text.push(b'"')?;
+    text.extend_from_slice(word)?;
+    text.push(b'"')?;
+    text.extend_from_slice(behind)?;
+    Ok(Some(text))
+}
+
+// What a line is read as, in both ways: as it stands, and with quotes, which send it through the lexer.
+pub(crate) fn read_line(
+    reader: &mut Reader,
+    alloc: Global,
+    line: &[u8],
+    number: u64,
+) -> Result<Result<Item, ReadFault>, Fail> {
+    let item = reader.line(line, number);
+    if let Some(text) = quoted(alloc, line)? {
+        if plain_front(&text).is_some() {
+            return Err(Fail::new("a line with quotes is taken as plain"));
+        }
+        if reader.line(&text, number) != item {
+            return Err(Fail::new("quotes turn what a line is read as"));
+        }
+    }
+    Ok(item)
+}
+
 // What is read of two parts put together.
 pub(crate) fn read(
     reader: &mut Reader,
@@ -47,7 +88,7 @@ pub(crate) fn read(
 ) -> Result<Item, Fail> {
     let mut line = Vec::from_slice(alloc, head)?;
     line.extend_from_slice(words)?;
-    match reader.line(&line, 1) {
+    match read_line(reader, alloc, &line, 1)? {
         Ok(item) => Ok(item),
         Err(_) => Err(Fail::new("a bad line")),
     }
@@ -81,7 +122,10 @@ fn lines_without_words_are_nothing(rt: HostRuntime) -> Result<(), Fail> {
         b"\\\n# x",
     ];
     for line in lines {
-        assert_eq!(rt; reader.line(line, 1), Ok(Item::Nothing));
+        assert_eq!(rt;
+            read_line(&mut reader, rt.alloc(), line, 1)?,
+            Ok(Item::Nothing)
+        );
     }
     Ok(())
 }
@@ -103,7 +147,7 @@ fn words_are_spelled_in_many_ways(rt: HostRuntime) -> Result<(), Fail> {
     ];
     for line in lines {
         assert_eq!(rt;
-            reader.line(line, 1),
+            read_line(&mut reader, rt.alloc(), line, 1)?,
             Ok(Item::One(Call::PolicyFlush(Some(Ptype::Sub))))
         );
     }

@@ -1,7 +1,7 @@
 //! Bad lines of policies with templates, with their reasons.
 
 use crate::fault::ReadFault;
-use crate::tests::reader;
+use crate::tests::{read_line, reader};
 use std::test::*;
 use xf_types::Reason;
 
@@ -343,7 +343,7 @@ fn bad_template_lines_have_their_reason(rt: HostRuntime) -> Result<(), Fail> {
                 line: 7,
                 reason: *reason,
             };
-            assert_eq!(rt; reader.line(line, 7), Err(fault));
+            assert_eq!(rt; read_line(&mut reader, rt.alloc(), line, 7)?, Err(fault));
         }
     }
     Ok(())

@@ -1,7 +1,7 @@
 //! Hostile lines, each as the only one of an input, with their reasons.
 
 use crate::fault::ReadFault;
-use crate::tests::reader;
+use crate::tests::{read_line, reader};
 use std::test::*;
 use xf_types::Reason;
 
@@ -38,7 +38,7 @@ fn hostile_lines_have_their_reason(rt: HostRuntime) -> Result<(), Fail> {
     let mut reader = reader(rt.alloc())?;
     for (line, reason) in HOSTILE {
         let fault = ReadFault::Bad { line: 1, reason };
-        assert_eq!(rt; reader.line(line, 1), Err(fault));
+        assert_eq!(rt; read_line(&mut reader, rt.alloc(), line, 1)?, Err(fault));
     }
     Ok(())
 }

@@ -1,7 +1,7 @@
 //! Lines of policies and flows, with what they ask for.
 
 use crate::reader::Item;
-use crate::tests::{V6_NET, between, every, read, reader, v4, v6};
+use crate::tests::{V6_NET, between, every, read, read_line, reader, v4, v6};
 use std::test::*;
 use xf_types::{
     Action, Addr, Call, Dir, Flow, Limits, Mark, PolicyFilter, PolicyKey, PolicySpec, Ptype,
@@ -57,7 +57,7 @@ pub(crate) fn flow(dir: Dir, src: Addr, dst: Addr) -> Flow {
 fn policies_are_read(rt: HostRuntime) -> Result<(), Fail> {
     let mut reader = reader(rt.alloc())?;
     assert_eq!(rt;
-        reader.line(b"xfrm policy add dir in", 1),
+        read_line(&mut reader, rt.alloc(), b"xfrm policy add dir in", 1)?,
         Ok(Item::One(Call::PolicyAdd(spec(Dir::In, every()))))
     );
     let sel = Selector {
@@ -68,10 +68,12 @@ fn policies_are_read(rt: HostRuntime) -> Result<(), Fail> {
         dport: Some(443),
     };
     assert_eq!(rt;
-        reader.line(
+        read_line(
+            &mut reader,
+            rt.alloc(),
             b"xfrm policy add src 2001:DB8:0:0::/32 dst ::/0 proto tcp dport 443 dir out priority 7 mark 0x2a\n",
             1
-        ),
+        )?,
         Ok(Item::One(Call::PolicyAdd(PolicySpec {
             priority: 7,
             mark: Mark {
@@ -111,13 +113,15 @@ fn policies_are_read(rt: HostRuntime) -> Result<(), Fail> {
         ..spec(Dir::Fwd, sel)
     };
     assert_eq!(rt;
-        reader.line(
+        read_line(
+            &mut reader,
+            rt.alloc(),
             b"xfrm policy update limit packet-hard 7 limit packet-soft 6 flag icmp localok icmp flag localok \
 code 0x0 type 8 proto icmp action block ptype sub index 26 if_id 0xFFFFffff priority 4294967295 \
 mark 0xff mask 0x0000000f limit byte-soft 0 limit byte-hard 5 dst 192.0.2.1 src 10.9.8.7/8 dir fwd \
 limit time-soft 1 limit time-hard 2 limit time-use-soft 3 limit time-use-hard 0xffffffffffffffff",
             1
-        ),
+        )?,
         Ok(Item::One(Call::PolicyUpdate(wanted)))
     );
     Ok(())
@@ -239,7 +243,7 @@ fn a_prefix_without_family_takes_the_others(rt: HostRuntime) -> Result<(), Fail>
     ];
     for (line, sel) in cases {
         assert_eq!(rt;
-            reader.line(line, 1),
+            read_line(&mut reader, rt.alloc(), line, 1)?,
             Ok(Item::One(Call::PolicyAdd(spec(Dir::In, sel))))
         );
     }
@@ -407,7 +411,13 @@ fn other_policy_lines_are_read(rt: HostRuntime) -> Result<(), Fail> {
         ),
     ];
     for (line, v4, v6) in lengths {
-        let Ok(Item::One(Call::PolicySet(thresholds))) = reader.line(line, 1) else {
+        let Ok(Item::One(Call::PolicySet(thresholds))) = read_line(
+            &mut reader,
+            rt.alloc(),
+            line,
+            1,
+        )?
+        else {
             return Err(Fail::new("no thresholds"));
         };
         assert_eq!(rt; (thresholds.v4, thresholds.v6), (v4, v6));
@@ -419,12 +429,12 @@ fn other_policy_lines_are_read(rt: HostRuntime) -> Result<(), Fail> {
     ];
     for (line, ptype) in kinds {
         assert_eq!(rt;
-            reader.line(line, 1),
+            read_line(&mut reader, rt.alloc(), line, 1)?,
             Ok(Item::One(Call::PolicyFlush(ptype)))
         );
     }
     assert_eq!(rt;
-        reader.line(b"xfrm policy count", 1),
+        read_line(&mut reader, rt.alloc(), b"xfrm policy count", 1)?,
         Ok(Item::One(Call::PolicyCount))
     );
     Ok(())
@@ -469,7 +479,10 @@ fn flows_are_read(rt: HostRuntime) -> Result<(), Fail> {
         ),
     ];
     for (line, flow) in cases {
-        assert_eq!(rt; reader.line(line, 1), Ok(Item::One(Call::Flow(flow))));
+        assert_eq!(rt;
+            read_line(&mut reader, rt.alloc(), line, 1)?,
+            Ok(Item::One(Call::Flow(flow)))
+        );
     }
     Ok(())
 }

@@ -1,7 +1,7 @@
 //! Lines of states with limits, of requests for a fresh SPI, of sends, of ticks and of workers, with what they ask for.
 
 use crate::reader::Item;
-use crate::tests::{between, read, reader, v4};
+use crate::tests::{between, read, read_line, reader, v4};
 use crate::tests_policies::flow;
 use crate::tests_states::{state, with_selector};
 use std::test::*;
@@ -72,10 +72,12 @@ limit time-use-hard 18446744073709551615 flag icmp limit time-use-soft 3 limit t
     let mut wanted = with_selector(between(v4(0, 0), v4(0xc0000201, 32)));
     wanted.limits = hard;
     assert_eq!(rt;
-        reader.line(
+        read_line(
+            &mut reader,
+            rt.alloc(),
             b"xfrm state add sel dst 192.0.2.1 limit packet-hard 2 dst 192.0.2.2 proto esp spi 0x1000",
             1
-        ),
+        )?,
         Ok(Item::One(Call::StateAdd(wanted)))
     );
     Ok(())
@@ -257,7 +259,10 @@ fn ticks_are_read(rt: HostRuntime) -> Result<(), Fail> {
         b"'tick' now",
     ];
     for line in clock {
-        assert_eq!(rt; reader.line(line, 1), Ok(Item::TickNow));
+        assert_eq!(rt;
+            read_line(&mut reader, rt.alloc(), line, 1)?,
+            Ok(Item::TickNow)
+        );
     }
     let numbers: [(&[u8], u64); 6] = [
         (b"tick 0", 0),
@@ -268,7 +273,10 @@ fn ticks_are_read(rt: HostRuntime) -> Result<(), Fail> {
         (b"tick 0x0000000000000001", 1),
     ];
     for (line, now) in numbers {
-        assert_eq!(rt; reader.line(line, 1), Ok(Item::One(Call::Tick(now))));
+        assert_eq!(rt;
+            read_line(&mut reader, rt.alloc(), line, 1)?,
+            Ok(Item::One(Call::Tick(now)))
+        );
     }
     Ok(())
 }
@@ -287,7 +295,10 @@ fn workers_are_read(rt: HostRuntime) -> Result<(), Fail> {
         (b"work\\\ner 0x000000000000000e", 14),
     ];
     for (line, worker) in cases {
-        assert_eq!(rt; reader.line(line, 1), Ok(Item::Worker(worker)));
+        assert_eq!(rt;
+            read_line(&mut reader, rt.alloc(), line, 1)?,
+            Ok(Item::Worker(worker))
+        );
     }
     Ok(())
 }
@@ -297,7 +308,10 @@ fn ends_of_phases_are_read(rt: HostRuntime) -> Result<(), Fail> {
     let mut reader = reader(rt.alloc())?;
     let lines: [&[u8]; 4] = [b"sync", b"sync\n", b" 'sync' # x", b"sy\\\nnc"];
     for line in lines {
-        assert_eq!(rt; reader.line(line, 1), Ok(Item::Sync));
+        assert_eq!(rt;
+            read_line(&mut reader, rt.alloc(), line, 1)?,
+            Ok(Item::Sync)
+        );
     }
     Ok(())
 }

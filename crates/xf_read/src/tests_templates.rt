@@ -1,7 +1,7 @@
 //! Lines of policies with templates, with what they ask for.
 
 use crate::reader::Item;
-use crate::tests::{between, every, read, reader, v4, v6};
+use crate::tests::{between, every, read, read_line, reader, v4, v6};
 use crate::tests_policies::spec;
 use std::test::*;
 use xf_types::{
@@ -202,7 +202,12 @@ fn templates_are_read_in_order(rt: HostRuntime) -> Result<(), Fail> {
     let mut reader = reader(rt.alloc())?;
     let esp = template(NONE4, NONE4, Proto::Esp);
     assert_eq!(rt;
-        reader.line(b"xfrm policy add dir out tmpl proto esp tmpl proto esp", 1),
+        read_line(
+            &mut reader,
+            rt.alloc(),
+            b"xfrm policy add dir out tmpl proto esp tmpl proto esp",
+            1
+        )?,
         Ok(Item::One(Call::PolicyAdd(policy(every(), &[esp, esp])?)))
     );
     let six = [
@@ -217,11 +222,13 @@ fn templates_are_read_in_order(rt: HostRuntime) -> Result<(), Fail> {
     wanted.priority = 9;
     wanted.mark = Mark { value: 7, mask: 1 };
     assert_eq!(rt;
-        reader.line(
+        read_line(
+            &mut reader,
+            rt.alloc(),
             b"xfrm policy add tmpl proto esp reqid 6 tmpl reqid 5 proto ah priority 9 tmpl reqid 4 proto comp \
 mark 7 mask 1 tmpl proto esp reqid 3 dir out tmpl src 192.0.2.1 dst 192.0.2.2 proto esp tmpl proto ah reqid 1",
             1
-        ),
+        )?,
         Ok(Item::One(Call::PolicyAdd(wanted)))
     );
     Ok(())

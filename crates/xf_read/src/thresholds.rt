@@ -3,7 +3,7 @@ ghost use Rattle.std.specs.Prelude.{◌≡◌};
 ghost use Rattle.xf_types.specs.Facts.{IsThresholds};
 ghost use Rattle.xf_read.specs.Thresholds as rule;
 
-use xf_grammar::{Field, Slot, u8_at};
+use xf_grammar::{Fields, Slot, u8_at};
 use xf_types::{Reason, Thresholds};
 
 /// A pair of lengths, no longer than an address. The table's range says the same, but a pair doesn't know its table.
@@ -17,7 +17,7 @@ fn lengths(most: u8, local: Option<u8>, remote: Option<u8>) -> Option<(u8, u8)>
 }
 
 /// The thresholds that a line gives.
-fn thresholds_of(fields: &[Field]) -> Thresholds
+fn thresholds_of(fields: &Fields) -> Thresholds
     ensures { result ≡ rule.thresholds_of fields.now }
 {
     Thresholds {
@@ -34,7 +34,7 @@ fn thresholds_of(fields: &[Field]) -> Thresholds
     }
 }
 
-pub(crate) fn read_thresholds(fields: &[Field]) -> Result<Thresholds, Reason>
+pub(crate) fn read_thresholds(fields: &Fields) -> Result<Thresholds, Reason>
     ensures { result ≡ rule.some_thresholds (rule.thresholds_of fields.now) }
 {
     let thresholds = thresholds_of(fields);
