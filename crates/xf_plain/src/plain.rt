@@ -172,6 +172,7 @@ impl Plain {
         self.put_with_index(spec)
     }
 
+    #[inline(never)]
     fn policy_add(&mut self, spec: &PolicySpec) -> Reply
         requires young { self.old.shown.next_number < 2 ^ 63 }
         ensures answer { result ≢ Reply.NoMemory
@@ -198,6 +199,7 @@ impl Plain {
         ensures settled { is_contended result ≡ false }
         ensures grows { GrowsLittle self.old.shown self.new.shown }
     {
+        // The calls stand apart: a function pays for its largest locals, also where it doesn't reach them.
         match call {
             Call::PolicyAdd(spec) => self.policy_add(spec),
             Call::PolicyUpdate(spec) => self.policy_update(spec),

@@ -3,7 +3,7 @@ ghost use Rattle.std.specs.Prelude.{◌≡◌, ◌<◌, ◌++◌, ◌/◌, ◌%�
 ghost use Rattle.xf_addr.specs.Text.{addr_text};
 ghost use Rattle.xf_print.specs.Numbers.{hex_digit, eight_digits, hex_text, flag_text, given_text};
 
-use std::io::Write;
+use itoa::Buffer;
 use xf_addr::write_addr;
 use xf_types::{Addr, NoMemory};
 
@@ -22,10 +22,8 @@ pub(crate) fn put_number(out: &mut Vec<u8>, word: &[u8], number: u64) -> Result<
     ensures { OnOk result (out.new.items ≡ out.old.items ++ word.now ++ decimal number) }
 {
     put(out, word)?;
-    match write!(out, "{number}") {
-        Ok(()) => Ok(()),
-        Err(_) => Err(NoMemory),
-    }
+    let mut digits = Buffer::new();
+    put(out, digits.format(number).as_bytes())
 }
 
 /// Two words, each with its number.

@@ -5,6 +5,7 @@ use Rattle.xf_types.specs.declared.call.Call.{Call}
 use Rattle.xf_types.specs.declared.call.Hop.{Hop}
 use Rattle.xf_types.specs.declared.call.Place.{Place}
 use Rattle.xf_types.specs.declared.call.Reply.{Reply}
+use Rattle.xf_types.specs.Codes.{is_refusal_of}
 use Rattle.xf_types.specs.Batch.{Line, AreOutputs, IsRunOf, Runs}
 use Rattle.xf_types.specs.Machine.{Machine, Shown}
 use Rattle.xf_run.specs.Outcome.{PartOf}
@@ -20,6 +21,12 @@ pub record GrowsBy (count : ℕ) (old new : Shown) : Type 0 where
 pub record MakesCall (before after : Machine) (at : Place) (c : Call) (reply : Reply) (old new : Heard) : Type 0 where
   pub may : MayAnswer before after c reply
   pub heard : new ≡ hear old at reply
+
+-- a call was made, its reply was heard, and it is a refusal or not
+pub record IsMade (before after : Machine) (at : Place) (c : Call) (refused : Bool) (old new : Heard) : Type 0 where
+  pub reply : Reply
+  pub made : MakesCall before after at c reply old new
+  pub refusal : is_refusal_of reply ≡ refused
 
 -- the turns were made, and their replies were heard
 pub record Makes (before after : Machine) (turns : List Turn) (refused : Bool) (old new : Heard) : Type 0 where

@@ -2,7 +2,7 @@
 ghost use Rattle.std.specs.Prelude.{◌≡◌, ◌≤◌, ◌<◌, ◌^◌, length, IfOk, OnOk};
 ghost use Rattle.xf_types.specs.Batch.{Send, path_of};
 ghost use Rattle.xf_run.specs.Heard.{HasRoom, HearsAtMost};
-ghost use Rattle.xf_run.specs.Progress.{GrowsBy, MakesCall, MakesLine, MakesOutputs};
+ghost use Rattle.xf_run.specs.Progress.{GrowsBy, IsMade, MakesLine, MakesOutputs};
 ghost use Rattle.xf_batch.specs.Shown.{line_of};
 
 use crate::teller::Teller;
@@ -10,23 +10,24 @@ use xf_batch::{Job, Task};
 use xf_plain::Plain;
 use xf_types::{Call, Flow, Hop, NoMemory, Place, Reply};
 
+/// Makes a call, and says whether its reply is a refusal. The reply, which is large, stays here.
 fn make_call<T: Teller>(
     machine: &mut Plain,
     at: Place,
     call: &Call,
     teller: &mut T,
-) -> Result<Reply, NoMemory>
+) -> Result<bool, NoMemory>
     requires numbers { machine.old.shown.next_number < 2 ^ 63 }
     requires sids { machine.old.shown.next_sid < 2 ^ 63 }
     requires room { HasRoom (T.heard teller.old) at.line 1 }
     ensures ok { IfOk result
-        (λ reply. MakesCall machine.old machine.new at call.now reply (T.heard teller.old) (T.heard teller.new)) }
+        (λ refused. IsMade machine.old machine.new at call.now refused (T.heard teller.old) (T.heard teller.new)) }
     ensures grows { OnOk result (GrowsBy 1 machine.old.shown machine.new.shown) }
     ensures few_heard { OnOk result (HearsAtMost 1 (T.heard teller.old) (T.heard teller.new)) }
 {
     let reply = machine.step(call);
     teller.tell(at, &reply)?;
-    Ok(reply)
+    Ok(reply.is_refusal())
 }
 
 /// The path that a reply gives, if it gives one.
@@ -62,8 +63,8 @@ fn make_outputs<T: Teller>(
     'hops: for hop in hops {
         let at = Place { line, part };
         let call = Call::Output { sid: hop.sid, len };
-        let reply = make_call(machine, at, &call, teller)?;
-        refused = refused | reply.is_refusal();
+        let refusal = make_call(machine, at, &call, teller)?;
+        refused = refused | refusal;
         part += 1;
     }
     Ok(refused)
@@ -86,7 +87,8 @@ fn make_send<T: Teller>(
     ensures few_heard { OnOk result (HearsAtMost 7 (T.heard teller.old) (T.heard teller.new)) }
 {
     let at = Place { line, part: 0 };
-    let reply = make_call(machine, at, &Call::Flow(flow), teller)?;
+    let reply = machine.step(&Call::Flow(flow));
+    teller.tell(at, &reply)?;
     let refused = make_outputs(machine, line, path(&reply), len, teller)?;
     Ok(reply.is_refusal() | refused)
 }
@@ -111,8 +113,8 @@ pub fn make_line<T: Teller>(
                 line: task.line,
                 part: 0,
             };
-            let reply = make_call(machine, at, call, teller)?;
-            Ok(reply.is_refusal())
+            let refused = make_call(machine, at, call, teller)?;
+            Ok(refused)
         }
         Job::Send { flow, len } => make_send(machine, task.line, *flow, *len, teller),
     }

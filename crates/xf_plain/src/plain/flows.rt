@@ -121,6 +121,7 @@ impl Plain {
     }
 
     /// Lists the larval state that is asked for, where there is room, with a fresh sequence number.
+    #[inline(never)]
     fn acquire(&mut self, wanted: SaSpec) -> Reply
         requires { self.old.shown.next_sid < 2 ^ 63 }
         ensures answer { result ≢ Reply.NoMemory
@@ -144,6 +145,7 @@ impl Plain {
         }
     }
 
+    #[inline(never)]
     pub(super) fn flow(&mut self, flow: &Flow) -> Reply
         requires { self.old.shown.next_sid < 2 ^ 63 }
         ensures answer { result ≢ Reply.NoMemory
@@ -157,6 +159,7 @@ impl Plain {
         }
     }
 
+    #[inline(never)]
     pub(super) fn try_flow(&self, flow: &Flow) -> Reply
         ensures answer { outcome result self.now ≡ applied self.now (rule.try_rule self.now.shown flow.now) }
         ensures memory { result ≢ Reply.NoMemory }

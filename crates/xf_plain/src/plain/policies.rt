@@ -48,6 +48,7 @@ impl Plain {
         }
     }
 
+    #[inline(never)]
     pub(super) fn policy_update(&mut self, spec: &PolicySpec) -> Reply
         requires young { self.old.shown.next_number < 2 ^ 63 }
         ensures answer { result ≢ Reply.NoMemory
@@ -67,6 +68,7 @@ impl Plain {
         }
     }
 
+    #[inline(never)]
     pub(super) fn policy_delete(&mut self, key: &PolicyKey) -> Reply
         ensures answer { outcome result self.new ≡ applied self.old (policy_delete self.old.shown key.now) }
         ensures memory { result ≢ Reply.NoMemory }
@@ -85,6 +87,7 @@ impl Plain {
         }
     }
 
+    #[inline(never)]
     pub(super) fn policy_get(&self, key: &PolicyKey) -> Reply
         ensures answer { outcome result self.now ≡ applied self.now (policy_get self.now.shown key.now) }
         ensures memory { result ≢ Reply.NoMemory }
@@ -99,6 +102,7 @@ impl Plain {
         }
     }
 
+    #[inline(never)]
     pub(super) fn policy_deleteall(&mut self, filter: &PolicyFilter) -> Reply
         ensures answer { outcome result self.new ≡ applied self.old (policy_deleteall self.old.shown filter.now) }
         ensures memory { result ≢ Reply.NoMemory }
@@ -109,6 +113,7 @@ impl Plain {
         Reply::Removed(count as u32)
     }
 
+    #[inline(never)]
     pub(super) fn policy_list(&self, filter: &PolicyFilter) -> Reply
         ensures answer { result ≢ Reply.NoMemory
             → outcome result self.now ≡ applied self.now (policy_list self.now.shown filter.now) }
@@ -121,6 +126,7 @@ impl Plain {
         }
     }
 
+    #[inline(never)]
     pub(super) fn policy_flush(&mut self, ptype: Option<Ptype>) -> Reply
         ensures answer { outcome result self.new ≡ applied self.old (policy_flush self.old.shown ptype) }
         ensures memory { result ≢ Reply.NoMemory }
@@ -138,6 +144,7 @@ impl Plain {
         counting::count_of_dir(self.policies.as_slice(), dir) as u32
     }
 
+    #[inline(never)]
     pub(super) fn policy_count(&self) -> Reply
         ensures answer { outcome result self.now ≡ applied self.now (policy_count self.now.shown) }
         ensures memory { result ≢ Reply.NoMemory }
@@ -150,6 +157,7 @@ impl Plain {
         }
     }
 
+    #[inline(never)]
     pub(super) fn policy_set(&mut self, set: &Thresholds) -> Reply
         ensures answer { outcome result self.new ≡ applied self.old (policy_set self.old.shown set.now) }
         ensures memory { result ≢ Reply.NoMemory }

@@ -55,6 +55,7 @@ impl Plain {
         }
     }
 
+    #[inline(never)]
     pub(super) fn alloc_spi(&mut self, spec: &AllocSpec) -> Reply
         requires { self.old.shown.next_sid < 2 ^ 63 }
         ensures answer { result ≢ Reply.NoMemory

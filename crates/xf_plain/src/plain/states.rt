@@ -69,6 +69,7 @@ impl Plain {
         }
     }
 
+    #[inline(never)]
     pub(super) fn state_add(&mut self, spec: &SaSpec) -> Reply
         requires { self.old.shown.next_sid < 2 ^ 63 }
         ensures answer { result ≢ Reply.NoMemory
@@ -100,6 +101,7 @@ impl Plain {
         Reply::DoneSid(old.sid)
     }
 
+    #[inline(never)]
     pub(super) fn state_update(&mut self, spec: &SaSpec) -> Reply
         requires { self.old.shown.next_sid < 2 ^ 63 }
         ensures answer { result ≢ Reply.NoMemory
@@ -113,6 +115,7 @@ impl Plain {
         }
     }
 
+    #[inline(never)]
     pub(super) fn state_delete(&mut self, id: &SaId) -> Reply
         ensures answer { outcome result self.new ≡ applied self.old (state_delete self.old.shown id.now) }
         ensures memory { result ≢ Reply.NoMemory }
@@ -128,6 +131,7 @@ impl Plain {
         }
     }
 
+    #[inline(never)]
     pub(super) fn state_get(&self, id: &SaId) -> Reply
         ensures answer { outcome result self.now ≡ applied self.now (state_get self.now.shown id.now) }
         ensures memory { result ≢ Reply.NoMemory }
@@ -139,6 +143,7 @@ impl Plain {
         }
     }
 
+    #[inline(never)]
     pub(super) fn state_deleteall(&mut self, filter: &SaFilter) -> Reply
         ensures answer { outcome result self.new ≡ applied self.old (state_deleteall self.old.shown filter.now) }
         ensures memory { result ≢ Reply.NoMemory }
@@ -149,6 +154,7 @@ impl Plain {
         Reply::Removed(count as u32)
     }
 
+    #[inline(never)]
     pub(super) fn state_list(&self, filter: &SaFilter) -> Reply
         ensures answer { result ≢ Reply.NoMemory
             → outcome result self.now ≡ applied self.now (state_list self.now.shown filter.now) }
@@ -160,6 +166,7 @@ impl Plain {
         }
     }
 
+    #[inline(never)]
     pub(super) fn state_flush(&mut self, proto: Option<Proto>) -> Reply
         ensures answer { outcome result self.new ≡ applied self.old (state_flush self.old.shown proto) }
         ensures memory { result ≢ Reply.NoMemory }
@@ -170,6 +177,7 @@ impl Plain {
         Reply::Removed(count as u32)
     }
 
+    #[inline(never)]
     pub(super) fn state_count(&self) -> Reply
         ensures answer { outcome result self.now ≡ applied self.now (state_count self.now.shown) }
         ensures memory { result ≢ Reply.NoMemory }
@@ -178,6 +186,7 @@ impl Plain {
         Reply::StateCount(self.states.len() as u32)
     }
 
+    #[inline(never)]
     pub(super) fn packet(&mut self, packet: &Packet) -> Reply
         ensures answer { outcome result self.new ≡ on_found self.old NoState (packet_at packet.now)
             (latest_match self.old.shown.states (id_of_packet packet.now)) }
@@ -190,6 +199,7 @@ impl Plain {
         }
     }
 
+    #[inline(never)]
     pub(super) fn output(&mut self, sid: u64, len: u32) -> Reply
         ensures answer { outcome result self.new ≡ on_found self.old Stale (output_at len)
             (find (has_sid sid) self.old.shown.states) }

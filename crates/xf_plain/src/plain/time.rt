@@ -20,6 +20,7 @@ impl Plain {
         Ok(events)
     }
 
+    #[inline(never)]
     pub(super) fn tick(&mut self, given: u64) -> Reply
         ensures answer { result ≢ Reply.NoMemory → outcome result self.new ≡ tick self.old given }
         ensures memory { result ≡ Reply.NoMemory → self.new ≡ self.old }

@@ -1,4 +1,4 @@
-use Rattle.std.proofs.Common.{arith, refl}
+use Rattle.std.proofs.Common.{arith, refl, sym}
 use Rattle.xf_types.specs.declared.network.Proto.TheVariants as proto
 use Rattle.xf_types.specs.declared.network.Addr.TheVariants as address
 use Rattle.xf_run.proofs.Making.{outputs_more, outputs_none}
@@ -24,12 +24,12 @@ returns-clause-few_heard g c = hears_fewer c.hops.hop-index 6 _ _ (omega (arith,
 pub hops-preserved : goal.hops-preserved
 hops-preserved g c = record {
   so_far =
-      rw c.is_refusal-refused.ensures
+      rw (sym c.in_ok-refusal.ensures.ok.refusal)
       (outputs_more c.args.hops.now c.hops.hop-index (record { sid = 0; proto = proto.Esp; spi = 0; dst = address.V4 0 }) c.args.machine.now c.hops.machine c.make_call.new.machine c.args.line c.hops.part
-      c.args.len c.in_ok-reply.reply c.hops.refused _ _ _ (omega arith)
-      c.hops.invariant.part c.hops.invariant.so_far c.in_ok-reply.ensures.ok);
-  few_heard = hears_more c.hops.hop-index 1 _ _ _ c.hops.invariant.few_heard c.in_ok-reply.ensures.few_heard;
+      c.args.len c.in_ok-refusal.ensures.ok.reply c.hops.refused _ _ _ (omega arith)
+      c.hops.invariant.part c.hops.invariant.so_far c.in_ok-refusal.ensures.ok.made);
+  few_heard = hears_more c.hops.hop-index 1 _ _ _ c.hops.invariant.few_heard c.in_ok-refusal.ensures.few_heard;
   part = omega arith;
-  numbers = omega (arith, c.in_ok-reply.ensures.grows.numbers);
-  sids = omega (arith, c.in_ok-reply.ensures.grows.sids);
+  numbers = omega (arith, c.in_ok-refusal.ensures.grows.numbers);
+  sids = omega (arith, c.in_ok-refusal.ensures.grows.sids);
 }
