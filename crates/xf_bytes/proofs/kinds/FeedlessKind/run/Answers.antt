@@ -10,4 +10,4 @@ returns c =
     let v = chunk c.args.at 16 c.args.bytes.now in
     let long = length-chunk c.args.at 16 c.args.bytes.now c.requires in
     run_of_mask is_feedless c.args.bytes.now c.args.at 16 _ _ c.requires (omega arith) c.type_inv.bytes c.first_set.ensures _
-    (zip2_splat _ v 16 10 long) refl
+    (zip2_splat _ v 16 _ long) refl

@@ -12,10 +12,10 @@ returns c =
     run_of_mask is_mild c.args.bytes.now c.args.at 16 _ _ c.requires (omega arith) c.type_inv.bytes c.first_set.ensures _
     (zip2_of_maps bit_or _ _ v
     (zip2_of_maps bit_and _ _ v
-    (zip2_of_maps (λ (a b : ℕ). cond (ltb a b) 255 0) _ _ v (splat_is_map v 16 94 long) (zip2_splat {Y = ℕ} _ v 16 32 long))
-    (zip2_splat {Y = ℕ} _ v 16 9 long))
+    (zip2_of_maps (λ (a b : ℕ). cond (ltb a b) 255 0) _ _ v (splat_is_map v 16 _ long) (zip2_splat {Y = ℕ} _ v 16 _ long))
+    (zip2_splat {Y = ℕ} _ v 16 _ long))
     (zip2_of_maps bit_or _ _ v
     (zip2_of_maps bit_or _ _ v
-    (zip2_of_maps (λ (a b : ℕ). cond (eqb a b) 255 0) _ _ v (zip2_splat bit_or v 16 1 long) (splat_is_map v 16 35 long))
-    (zip2_splat {Y = ℕ} _ v 16 39 long))
-    (zip2_splat {Y = ℕ} _ v 16 92 long))) refl
+    (zip2_of_maps (λ (a b : ℕ). cond (eqb a b) 255 0) _ _ v (zip2_splat bit_or v 16 _ long) (splat_is_map v 16 _ long))
+    (zip2_splat {Y = ℕ} _ v 16 _ long))
+    (zip2_splat {Y = ℕ} _ v 16 _ long))) refl
