@@ -122,6 +122,10 @@ abbrev pub put : Progress → Args → Option (Slot × Value) → Progress
 put s rest None = record s { pending = rest }
 put s rest (Some v) = record s { fields = s.fields ++ record { group = s.group; slot = v.0; value = v.1 } ∷ []; pending = rest }
 
+-- what a word was read as is put at its slot
+abbrev pub put_read : Progress → Args → Slot → Result Value Reason → Result Progress Reason
+put_read s rest slot read = at_slot slot read >>= λ v. Ok (put s rest v)
+
 -- a value is taken
 abbrev pub take_value : Progress → Arg → Args → Word → Result Progress Reason
 take_value s a rest w = value_in a w >>= λ v. Ok (put s rest v)

@@ -1,5 +1,5 @@
 //! The fields of a line's words.
-ghost use Rattle.std.specs.Prelude.{◌≡◌, ◌+◌};
+ghost use Rattle.std.specs.Prelude.{◌≡◌, ◌+◌, option_copied, option_map};
 ghost use Rattle.xf_lex.specs.Gives.{Gives};
 ghost use Rattle.xf_lex.specs.Plain.{left};
 ghost use Rattle.xf_grammar.specs.Grammar.{row_in, row_among, row_of, was_used, fields_of};
@@ -10,7 +10,10 @@ use crate::given::Fields;
 use crate::keyword::Keyword;
 use crate::row::{Arg, Args, Field, Row, Slot, Table, Value};
 use crate::tables::rows_in;
-use crate::values::read_value;
+use crate::values::{
+    addr_value, name_or_prefix, name_or_u8, name_or_u64, name_value, u8_value, u16_value,
+    u32_value, u64_value,
+};
 use std::alloc::Global;
 use xf_lex::{LineFault, Words};
 use xf_types::Reason;
@@ -36,32 +39,32 @@ pub struct Progress {
 impl Row {
     ghost use Rattle.xf_grammar.specs.Grammar.{row_word};
 
-    fn word(self) -> Keyword
-        ensures { result ≡ row_word self }
+    fn word(&self) -> Keyword
+        ensures { result ≡ row_word self.now }
     {
         match self {
-            Row::Once(word, _, _) => word,
-            Row::Often(word, _, _) => word,
-            Row::Kept(word, _, _) => word,
-            Row::Opens(word, _, _, _, _) => word,
-            Row::Unsupported(word) => word,
+            Row::Once(word, _, _) => *word,
+            Row::Often(word, _, _) => *word,
+            Row::Kept(word, _, _) => *word,
+            Row::Opens(word, _, _, _, _) => *word,
+            Row::Unsupported(word) => *word,
         }
     }
 }
 
-fn find_row(rows: &[Row], word: &[u8]) -> Option<Row>
-    ensures { result ≡ row_in rows.now word.now }
+fn find_row<'a>(rows: &'a [Row], word: &[u8]) -> Option<&'a Row>
+    ensures { option_copied result ≡ row_in rows.now word.now }
 {
     for row in rows {
         if row.word().text() == word {
-            return Some(*row);
+            return Some(row);
         }
     }
     None
 }
 
-fn find_among(tables: &[Table], word: &[u8]) -> Option<Row>
-    ensures { result ≡ row_among tables.now word.now }
+fn find_among(tables: &[Table], word: &[u8]) -> Option<&'static Row>
+    ensures { option_copied result ≡ row_among tables.now word.now }
 {
     for table in tables {
         if let Some(row) = find_row(rows_in(*table), word) {
@@ -83,9 +86,9 @@ fn is_used(used: &[Used], group: u32, word: &[u8]) -> bool
 }
 
 impl Progress {
-    ghost use Rattle.std.specs.Prelude.{Ok, IfSome};
+    ghost use Rattle.std.specs.Prelude.{Ok, Some};
     ghost use Rattle.xf_grammar.specs.declared.row.Args.TheVariants as args;
-    ghost use Rattle.xf_grammar.specs.Grammar.{start, put, take_value, entered, kept, enter, enter_found};
+    ghost use Rattle.xf_grammar.specs.Grammar.{start, put, put_read, take_value, entered, kept, enter, enter_found};
 
     pub fn new(alloc: Global) -> Progress
         ensures { seen result ≡ start args.None }
@@ -113,26 +116,53 @@ impl Progress {
     }
 
     // Puts a value in its place; the rest comes next.
-    fn put(&mut self, rest: Args, value: Option<(Slot, Value)>) -> Result<(), LineFault>
-        ensures { Gives (λ _. seen self.new) result (Ok (put (seen self.old) rest value)) }
+    fn put(&mut self, rest: Args, slot: Slot, value: Value) -> Result<(), LineFault>
+        ensures { Gives (λ _. seen self.new) result (Ok (put (seen self.old) rest (Some (slot, value)))) }
     {
-        if let Some((slot, value)) = value {
-            self.fields.push(Field {
-                group: self.group,
-                slot,
-                value,
-            })?;
-        }
+        self.fields.push(Field {
+            group: self.group,
+            slot,
+            value,
+        })?;
         self.pending = rest;
         Ok(())
     }
 
+    // The same of what a word was read as.
+    fn put_read(
+        &mut self,
+        rest: Args,
+        slot: Slot,
+        read: Result<Value, Reason>,
+    ) -> Result<(), LineFault>
+        ensures { Gives (λ _. seen self.new) result (put_read (seen self.old) rest slot read) }
+    {
+        match read {
+            Ok(value) => self.put(rest, slot, value),
+            Err(reason) => Err(LineFault::Bad(reason)),
+        }
+    }
+
+    #[tactic(auto, unfolding(crate::specs::Grammar::value_in))]
     fn take_value(&mut self, arg: Arg, rest: Args, word: &[u8]) -> Result<(), LineFault>
         ensures { Gives (λ _. seen self.new) result (take_value (seen self.old) arg rest word.now) }
     {
-        match read_value(arg, word) {
-            Ok(value) => self.put(rest, value),
-            Err(reason) => Err(LineFault::Bad(reason)),
+        match arg {
+            Arg::U8(slot, low, high) => self.put_read(rest, slot, u8_value(low, high, word)),
+            Arg::U16(slot, low, high) => self.put_read(rest, slot, u16_value(low, high, word)),
+            Arg::U32(slot, low, high) => self.put_read(rest, slot, u32_value(low, high, word)),
+            Arg::U64(slot, low, high) => self.put_read(rest, slot, u64_value(low, high, word)),
+            Arg::NameOrU8(slot, first, second) => {
+                self.put_read(rest, slot, name_or_u8(first, second, word))
+            }
+            Arg::NameOrU64(slot, names) => self.put_read(rest, slot, name_or_u64(names, word)),
+            Arg::Name(slot, names) => self.put_read(rest, slot, name_value(names, word)),
+            Arg::Addr(slot) => self.put_read(rest, slot, addr_value(word)),
+            Arg::Prefix(slot) => self.put_read(rest, slot, name_or_prefix(word)),
+            Arg::Forgotten => {
+                self.pending = rest;
+                Ok(())
+            }
         }
     }
 
@@ -149,13 +179,13 @@ impl Progress {
         ensures { Gives (λ _. seen self.new) result (Ok (kept (seen self.old) group slot next)) }
     {
         self.enter_row(group, Args::None, next);
-        self.put(Args::None, Some((slot, Value::Bool(true))))
+        self.put(Args::None, slot, Value::Bool(true))
     }
 
     // A row's word was met in this group.
     #[tactic(auto, unfolding(crate::specs::Grammar::enter))]
-    fn enter(&mut self, group: u32, row: Row) -> Result<(), LineFault>
-        ensures { Gives (λ _. seen self.new) result (enter (seen self.old) group row) }
+    fn enter(&mut self, group: u32, row: &Row) -> Result<(), LineFault>
+        ensures { Gives (λ _. seen self.new) result (enter (seen self.old) group row.now) }
     {
         match row {
             Row::Once(word, values, next) => {
@@ -166,27 +196,27 @@ impl Progress {
                     group,
                     word: word.text(),
                 })?;
-                self.enter_row(group, values, next);
+                self.enter_row(group, *values, *next);
                 Ok(())
             }
             Row::Often(_, values, next) => {
-                self.enter_row(group, values, next);
+                self.enter_row(group, *values, *next);
                 Ok(())
             }
-            Row::Kept(_, slot, next) => self.keep(group, slot, next),
+            Row::Kept(_, slot, next) => self.keep(group, *slot, *next),
             Row::Opens(_, slot, next, most, more) => {
-                if self.opened >= most {
-                    return Err(LineFault::Bad(more));
+                if self.opened >= *most {
+                    return Err(LineFault::Bad(*more));
                 }
                 self.opened += 1;
-                self.keep(self.opened, slot, next)
+                self.keep(self.opened, *slot, *next)
             }
             Row::Unsupported(_) => Err(LineFault::Bad(Reason::Unsupported)),
         }
     }
 
-    fn enter_found(&mut self, found: Option<(u32, Row)>) -> Result<(), LineFault>
-        ensures { Gives (λ _. seen self.new) result (enter_found (seen self.old) found) }
+    fn enter_found(&mut self, found: Option<(u32, &Row)>) -> Result<(), LineFault>
+        ensures { Gives (λ _. seen self.new) result (enter_found (seen self.old) (option_map (λ f. (f.0, f.1.now)) found.entry)) }
     {
         match found {
             None => Err(LineFault::Bad(Reason::Word)),
@@ -200,21 +230,26 @@ impl Progress {
     ghost use Rattle.xf_grammar.specs.Grammar.{after_word, ended, in_group};
 
     // A word is first sought in the table that may follow, and then among the line's own.
-    fn find(&self, tables: &[Table], word: &[u8]) -> Option<(u32, Row)>
-        ensures { result ≡ row_of tables.now (seen self.now) word.now }
+    fn find(&self, tables: &[Table], word: &[u8]) -> Option<(u32, &'static Row)>
+        ensures { option_map (λ f. (f.0, f.1.now)) result ≡ row_of tables.now (seen self.now) word.now }
     {
         if let Some(row) = find_row(rows_in(self.following), word) {
             return Some((self.group, row));
         }
-        find_among(tables, word).map(|row| (0, row))
+        match find_among(tables, word) {
+            Some(row) => Some((0, row)),
+            None => None,
+        }
     }
 
     // A word of this table has to come.
-    fn find_in(&self, table: Table, word: &[u8]) -> Option<(u32, Row)>
-        ensures { result ≡ in_group self.now.group (row_in (rows_of table) word.now) None }
+    fn find_in(&self, table: Table, word: &[u8]) -> Option<(u32, &'static Row)>
+        ensures { option_map (λ f. (f.0, f.1.now)) result ≡ in_group self.now.group (row_in (rows_of table) word.now) None }
     {
-        let group = self.group;
-        find_row(rows_in(table), word).map(|row| (group, row))
+        match find_row(rows_in(table), word) {
+            Some(row) => Some((self.group, row)),
+            None => None,
+        }
     }
 
     // Takes the next word.

@@ -125,13 +125,13 @@ fn head_rows_in(table: HeadTable) -> &'static [HeadRow]
 impl HeadRow {
     ghost use Rattle.xf_grammar.specs.Heads.{head_word};
 
-    fn word(self) -> Keyword
-        ensures { result ≡ head_word self }
+    fn word(&self) -> Keyword
+        ensures { result ≡ head_word self.now }
     {
         match self {
-            HeadRow::Leads(word, _) => word,
-            HeadRow::Ends(word, _) => word,
-            HeadRow::Unsupported(word) => word,
+            HeadRow::Leads(word, _) => *word,
+            HeadRow::Ends(word, _) => *word,
+            HeadRow::Unsupported(word) => *word,
         }
     }
 }
