@@ -114,15 +114,15 @@ impl Gather {
         ensures { (workers : ℕ) (g : Gathered) → Gathers workers self.old g
             → Puts workers asked.line g (effect_of now g asked.line (asked_by asked.head (fields_read lines.now))) self.new result }
     {
-        if asked.head.is_none() {
-            return Ok(true);
-        }
-        match lines.asked(asked.head) {
-            Ok(item) => self.put_item(asked.line, item, now),
-            Err(reason) => Err(PhaseFault::Bad {
-                line: asked.line,
-                reason,
-            }),
+        match asked.head {
+            None => Ok(true),
+            Some(head) => match lines.asked(head) {
+                Ok(item) => self.put_item(asked.line, item, now),
+                Err(reason) => Err(PhaseFault::Bad {
+                    line: asked.line,
+                    reason,
+                }),
+            },
         }
     }
 

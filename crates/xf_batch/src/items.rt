@@ -36,9 +36,12 @@ fn bad(line: u64, reason: Reason) -> PhaseFault
 fn over_reason(lines: &LineReader, head: Option<Head>) -> Reason
     ensures { judged true (asked_by head (fields_read lines.now)) ≡ Err result }
 {
-    match lines.asked(head) {
-        Err(Reason::Long) => Reason::Long,
-        _ => Reason::Input,
+    match head {
+        None => Reason::Input,
+        Some(head) => match lines.asked(head) {
+            Err(Reason::Long) => Reason::Long,
+            _ => Reason::Input,
+        },
     }
 }
 

@@ -1,2 +1,3 @@
 pub mod HexValues
 pub mod GivenLaws
+pub mod PendingLaws

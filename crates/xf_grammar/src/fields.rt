@@ -115,54 +115,45 @@ impl Progress {
         self.used.clear();
     }
 
-    // Puts a value in its place; the rest comes next.
-    fn put(&mut self, rest: Args, slot: Slot, value: Value) -> Result<(), LineFault>
-        ensures { Gives (λ _. seen self.new) result (Ok (put (seen self.old) rest (Some (slot, value)))) }
+    // Puts a value in its place.
+    fn put(&mut self, slot: Slot, value: Value) -> Result<(), LineFault>
+        ensures { Gives (λ _. seen self.new) result (Ok (put (seen self.old) self.old.pending (Some (slot, value)))) }
     {
         self.fields.push(Field {
             group: self.group,
             slot,
             value,
-        })?;
-        self.pending = rest;
-        Ok(())
+        })
     }
 
     // The same of what a word was read as.
-    fn put_read(
-        &mut self,
-        rest: Args,
-        slot: Slot,
-        read: Result<Value, Reason>,
-    ) -> Result<(), LineFault>
-        ensures { Gives (λ _. seen self.new) result (put_read (seen self.old) rest slot read) }
+    fn put_read(&mut self, slot: Slot, read: Result<Value, Reason>) -> Result<(), LineFault>
+        ensures { Gives (λ _. seen self.new) result (put_read (seen self.old) self.old.pending slot read) }
     {
         match read {
-            Ok(value) => self.put(rest, slot, value),
+            Ok(value) => self.put(slot, value),
             Err(reason) => Err(LineFault::Bad(reason)),
         }
     }
 
+    // Reads a value, and puts it in its place. What comes behind it is pending already.
     #[tactic(auto, unfolding(crate::specs::Grammar::value_in))]
-    fn take_value(&mut self, arg: Arg, rest: Args, word: &[u8]) -> Result<(), LineFault>
-        ensures { Gives (λ _. seen self.new) result (take_value (seen self.old) arg rest word.now) }
+    fn take_value(&mut self, arg: Arg, word: &[u8]) -> Result<(), LineFault>
+        ensures { Gives (λ _. seen self.new) result (take_value (seen self.old) arg self.old.pending word.now) }
     {
         match arg {
-            Arg::U8(slot, low, high) => self.put_read(rest, slot, u8_value(low, high, word)),
-            Arg::U16(slot, low, high) => self.put_read(rest, slot, u16_value(low, high, word)),
-            Arg::U32(slot, low, high) => self.put_read(rest, slot, u32_value(low, high, word)),
-            Arg::U64(slot, low, high) => self.put_read(rest, slot, u64_value(low, high, word)),
+            Arg::U8(slot, low, high) => self.put_read(slot, u8_value(low, high, word)),
+            Arg::U16(slot, low, high) => self.put_read(slot, u16_value(low, high, word)),
+            Arg::U32(slot, low, high) => self.put_read(slot, u32_value(low, high, word)),
+            Arg::U64(slot, low, high) => self.put_read(slot, u64_value(low, high, word)),
             Arg::NameOrU8(slot, first, second) => {
-                self.put_read(rest, slot, name_or_u8(first, second, word))
+                self.put_read(slot, name_or_u8(first, second, word))
             }
-            Arg::NameOrU64(slot, names) => self.put_read(rest, slot, name_or_u64(names, word)),
-            Arg::Name(slot, names) => self.put_read(rest, slot, name_value(names, word)),
-            Arg::Addr(slot) => self.put_read(rest, slot, addr_value(word)),
-            Arg::Prefix(slot) => self.put_read(rest, slot, name_or_prefix(word)),
-            Arg::Forgotten => {
-                self.pending = rest;
-                Ok(())
-            }
+            Arg::NameOrU64(slot, names) => self.put_read(slot, name_or_u64(names, word)),
+            Arg::Name(slot, names) => self.put_read(slot, name_value(names, word)),
+            Arg::Addr(slot) => self.put_read(slot, addr_value(word)),
+            Arg::Prefix(slot) => self.put_read(slot, name_or_prefix(word)),
+            Arg::Forgotten => Ok(()),
         }
     }
 
@@ -179,7 +170,7 @@ impl Progress {
         ensures { Gives (λ _. seen self.new) result (Ok (kept (seen self.old) group slot next)) }
     {
         self.enter_row(group, Args::None, next);
-        self.put(Args::None, slot, Value::Bool(true))
+        self.put(slot, Value::Bool(true))
     }
 
     // A row's word was met in this group.
@@ -253,7 +244,7 @@ impl Progress {
     }
 
     // Takes the next word.
-    #[tactic(auto, unfolding(crate::specs::Grammar::after_word))]
+    #[tactic(auto, using(crate::proofs::PendingLaws::taken_with), unfolding(crate::specs::Grammar::after_word))]
     fn after_word(&mut self, tables: &[Table], word: &[u8]) -> Result<(), LineFault>
         ensures { Gives (λ _. seen self.new) result (after_word tables.now (seen self.old) word.now) }
     {
@@ -262,9 +253,18 @@ impl Progress {
                 let found = self.find(tables, word);
                 self.enter_found(found)
             }
-            Args::One(a) => self.take_value(a, Args::None, word),
-            Args::Two(a, b) => self.take_value(a, Args::One(b), word),
-            Args::Three(a, b, c) => self.take_value(a, Args::Two(b, c), word),
+            Args::One(a) => {
+                self.pending = Args::None;
+                self.take_value(a, word)
+            }
+            Args::Two(a, b) => {
+                self.pending = Args::One(b);
+                self.take_value(a, word)
+            }
+            Args::Three(a, b, c) => {
+                self.pending = Args::Two(b, c);
+                self.take_value(a, word)
+            }
             Args::Word(table) => {
                 let found = self.find_in(table, word);
                 self.enter_found(found)

@@ -1,5 +1,5 @@
 //! The reader of lines.
-ghost use Rattle.std.specs.Prelude.{◌≡◌};
+ghost use Rattle.std.specs.Prelude.{◌≡◌, Some};
 ghost use Rattle.xf_lex.specs.Plain.{left};
 ghost use Rattle.xf_read.specs.Items.{GivesHead, asked_by, fields_read, words_item, line_item};
 
@@ -54,13 +54,10 @@ impl LineReader {
     }
 
     /// What the line asks for whose head and fields were read last.
-    pub fn asked(&self, head: Option<Head>) -> Result<Item, Reason>
-        ensures { result ≡ asked_by head (fields_read self.now) }
+    pub fn asked(&self, head: Head) -> Result<Item, Reason>
+        ensures { result ≡ asked_by (Some head) (fields_read self.now) }
     {
-        match head {
-            None => Ok(Item::Nothing),
-            Some(head) => read_asked(head, &self.progress.fields),
-        }
+        read_asked(head, &self.progress.fields)
     }
 
     /// Reads one logical line, whole or as far as it takes to be long, with or without its line feed. `number` is that of
@@ -69,7 +66,8 @@ impl LineReader {
         ensures { GivesItem result (item_of bytes.now number) }
     {
         let read = match self.read_line(bytes) {
-            Ok(head) => self.asked(head),
+            Ok(None) => Ok(Item::Nothing),
+            Ok(Some(head)) => self.asked(head),
             Err(LineFault::Bad(reason)) => Err(reason),
             Err(LineFault::Memory) => return Err(ReadFault::NoMemory),
         };
