@@ -7,7 +7,7 @@ ghost use Rattle.xf_grammar.specs.Seen.{seen, uses};
 ghost use Rattle.xf_grammar.specs.Tables.{rows_of};
 
 use crate::given::Fields;
-use crate::keyword::Keyword;
+use crate::keyword::{Keyword, is_word};
 use crate::row::{Arg, Args, Field, Row, Slot, Table, Value};
 use crate::tables::rows_in;
 use crate::values::{
@@ -56,7 +56,7 @@ fn find_row<'a>(rows: &'a [Row], word: &[u8]) -> Option<&'a Row>
     ensures { option_copied result ≡ row_in rows.now word.now }
 {
     for row in rows {
-        if row.word().text() == word {
+        if is_word(row.word().text(), word) {
             return Some(row);
         }
     }
@@ -78,7 +78,7 @@ fn is_used(used: &[Used], group: u32, word: &[u8]) -> bool
     ensures { result ≡ was_used (uses used.now) group word.now }
 {
     for u in used {
-        if u.group == group && u.word == word {
+        if u.group == group && is_word(u.word, word) {
             return true;
         }
     }

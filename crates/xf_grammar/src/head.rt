@@ -4,7 +4,7 @@ ghost use Rattle.xf_lex.specs.Gives.{Reads};
 ghost use Rattle.xf_grammar.specs.Heads.{head_rows_of, head_row_in, head_of};
 ghost use Rattle.xf_lex.specs.Plain.{left};
 
-use crate::keyword::Keyword;
+use crate::keyword::{Keyword, is_word};
 use xf_lex::Words;
 use xf_types::{Dir, Reason};
 
@@ -140,7 +140,7 @@ fn find_head_row(rows: &[HeadRow], word: &[u8]) -> Option<HeadRow>
     ensures { result ≡ head_row_in rows.now word.now }
 {
     for row in rows {
-        if row.word().text() == word {
+        if is_word(row.word().text(), word) {
             return Some(*row);
         }
     }

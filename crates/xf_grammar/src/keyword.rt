@@ -1,5 +1,6 @@
 //! The words of the grammar.
 ghost use Rattle.std.specs.Prelude.{◌≡◌};
+ghost use Rattle.std.specs.Str.{bytes_eq};
 ghost use Rattle.xf_grammar.specs.Keywords.{text_of};
 
 /// A word that lines are written with.
@@ -263,4 +264,14 @@ impl Keyword {
             Keyword::Now => b"now",
         }
     }
+}
+
+/// Whether the texts are the same. Most differ in the first byte.
+pub(crate) fn is_word(text: &[u8], word: &[u8]) -> bool
+    ensures { result ≡ bytes_eq text.now word.now }
+{
+    if !text.is_empty() && !word.is_empty() && text[0] != word[0] {
+        return false;
+    }
+    text == word
 }

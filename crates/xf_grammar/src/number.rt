@@ -87,11 +87,11 @@ pub(crate) fn read_number_in(low: u64, high: u64, word: &[u8]) -> Result<u64, Re
     ensures number { result ≡ number_in low high word.now }
     ensures most { IfOk result (λ n. n ≤ high) }
 {
+    if let Some(n) = read_number(word, u64::MAX) {
+        return within(low, high, n);
+    }
     if spells_decimal(word) {
-        return match read_number(word, u64::MAX) {
-            Some(n) => within(low, high, n),
-            None => Err(Reason::Range),
-        };
+        return Err(Reason::Range);
     }
     if spells_hex(word) {
         return within(low, high, hex_value(&word[2..]));

@@ -7,7 +7,7 @@ ghost use Rattle.xf_grammar.specs.Tables.{names_of};
 ghost use Rattle.xf_grammar.specs.declared.row.Names.TheVariants as names;
 ghost use Rattle.xf_grammar.specs.declared.row.Value.TheVariants as value;
 
-use crate::keyword::Keyword;
+use crate::keyword::{Keyword, is_word};
 use crate::number::read_number_in;
 use crate::row::{Meaning, Name, Names, Value};
 use crate::tables::names_in;
@@ -65,7 +65,7 @@ fn find_name<'a>(names: &'a [Name], word: &[u8]) -> Option<&'a Name>
     ensures { option_copied result ≡ name_in names.now word.now }
 {
     for name in names {
-        if name.word().text() == word {
+        if is_word(name.word().text(), word) {
             return Some(name);
         }
     }
