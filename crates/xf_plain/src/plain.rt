@@ -191,6 +191,7 @@ impl Plain {
 
     /// One step: the reply of the machine, and the machine after it. Where memory runs out the machine stays. No reply comes of
     /// other threads, and the two counters that have no end of their own grow by one at most.
+    #[inline(always)]
     pub fn step(&mut self, call: &Call) -> Reply
         requires numbers { self.old.shown.next_number < 2 ^ 63 }
         requires sids { self.old.shown.next_sid < 2 ^ 63 }
