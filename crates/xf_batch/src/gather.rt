@@ -1,6 +1,7 @@
 //! A phase, line by line.
-ghost use Rattle.std.specs.Prelude.{◌≡◌, ℕ, ◌<◌, ◌≤◌, ◌^◌, length, IfErr, IfOk};
+ghost use Rattle.std.specs.Prelude.{◌≡◌, ℕ, Some, ◌<◌, ◌≤◌, ◌^◌, length, IfErr, IfOk};
 ghost use Rattle.xf_read.specs.declared.reader.Item.{Item as ReadItem};
+ghost use Rattle.xf_grammar.specs.declared.head.Head.TheVariants as head;
 ghost use Rattle.xf_read.specs.Items.{asked_by, fields_read};
 ghost use Rattle.xf_batch.specs.Batch.{Gathered, beginning, effect_of, is_list_line, is_over, with_call};
 ghost use Rattle.xf_batch.specs.Gathers.{Gathers, Puts};
@@ -11,8 +12,9 @@ use crate::items::Asked;
 use crate::phase::Phase;
 use crate::task::{Job, Task};
 use std::alloc::Global;
+use xf_grammar::Head;
 use xf_read::{Item, LineReader};
-use xf_types::{Call, Reason};
+use xf_types::{Call, Dir, Reason};
 
 // How many call lines a phase may have, and how many lists among them.
 const CALLS: u64 = 16_384;
@@ -63,6 +65,7 @@ impl Gather {
     }
 
     // Puts a call line behind those of its thread, or refuses it.
+    #[inline(always)]
     fn push_line(&mut self, line: u64, job: Job) -> Result<bool, PhaseFault>
         requires { 0 < length self.old.threads.items }
         ensures { (workers : ℕ) (g : Gathered) → Gathers workers self.old g
@@ -81,6 +84,39 @@ impl Gather {
         self.calls += 1;
         self.lists += u64::from(lists);
         Ok(true)
+    }
+
+    // Flows and packets have functions of their own, which aren't inlined: of those, what is read is small, and a call is made of it
+    // where it is kept.
+
+    #[inline(never)]
+    fn put_flow(
+        &mut self,
+        lines: &LineReader,
+        line: u64,
+        dir: Dir,
+        _now: u64,
+    ) -> Result<bool, PhaseFault>
+        requires { 0 < length self.old.threads.items }
+        ensures { (workers : ℕ) (g : Gathered) → Gathers workers self.old g
+            → Puts workers line g (effect_of _now g line (asked_by (Some (head.Flow dir)) (fields_read lines.now))) self.new result }
+    {
+        match lines.flow(dir) {
+            Ok(flow) => self.push_line(line, Job::One(Call::Flow(flow))),
+            Err(reason) => Err(PhaseFault::Bad { line, reason }),
+        }
+    }
+
+    #[inline(never)]
+    fn put_packet(&mut self, lines: &LineReader, line: u64, _now: u64) -> Result<bool, PhaseFault>
+        requires { 0 < length self.old.threads.items }
+        ensures { (workers : ℕ) (g : Gathered) → Gathers workers self.old g
+            → Puts workers line g (effect_of _now g line (asked_by (Some head.Packet) (fields_read lines.now))) self.new result }
+    {
+        match lines.packet() {
+            Ok(packet) => self.push_line(line, Job::One(Call::Packet(packet))),
+            Err(reason) => Err(PhaseFault::Bad { line, reason }),
+        }
     }
 
     // Puts what a line asks for behind the lines so far, and says whether the phase goes on.
@@ -116,12 +152,16 @@ impl Gather {
     {
         match asked.head {
             None => Ok(true),
-            Some(head) => match lines.asked(head) {
-                Ok(item) => self.put_item(asked.line, item, now),
-                Err(reason) => Err(PhaseFault::Bad {
-                    line: asked.line,
-                    reason,
-                }),
+            Some(head) => match head {
+                Head::Flow(dir) => self.put_flow(lines, asked.line, dir, now),
+                Head::Packet => self.put_packet(lines, asked.line, now),
+                _ => match lines.asked(head) {
+                    Ok(item) => self.put_item(asked.line, item, now),
+                    Err(reason) => Err(PhaseFault::Bad {
+                        line: asked.line,
+                        reason,
+                    }),
+                },
             },
         }
     }

@@ -1,5 +1,8 @@
 -- What a line asks for, or its fault.
 use Rattle.std.specs.Prelude.{◌≡◌, ℕ, List, [], ◌∷◌, Option, None, Some, Result, Ok, Err}
+use Rattle.xf_types.specs.declared.call.Call.TheVariants as call
+use Rattle.xf_types.specs.declared.network.Flow.{Flow}
+use Rattle.xf_types.specs.declared.call.Packet.{Packet}
 use Rattle.xf_types.specs.declared.status.Reason.{Reason}
 use Rattle.xf_lex.specs.declared.fault.LineFault.{LineFault}
 use Rattle.xf_lex.specs.Gives.{Fails}
@@ -15,7 +18,7 @@ use Rattle.xf_read.specs.declared.fault.ReadFault.{ReadFault}
 use Rattle.xf_read.specs.declared.fault.ReadFault.TheVariants.{Bad, NoMemory}
 use Rattle.xf_read.specs.declared.line_reader.LineReader.{LineReader}
 use Rattle.xf_read.specs.declared.reader.Item.{Item}
-use Rattle.xf_read.specs.declared.reader.Item.TheVariants.{Nothing}
+use Rattle.xf_read.specs.declared.reader.Item.TheVariants.{Nothing, One}
 use Rattle.xf_read.specs.Calls.{asked_of}
 
 -- a line without words is nothing; else its head says which words may follow, and what they ask for
@@ -38,6 +41,14 @@ fields_read reader = reader.progress.fields
 abbrev pub asked_by : Option Head → List Field → Result Item Reason
 asked_by None fields = Ok Nothing
 asked_by (Some head) fields = asked_of head fields
+
+-- a flow that is asked for, or why none is
+abbrev pub flow_item : Result Flow Reason → Result Item Reason
+flow_item read = read >>= λ flow. Ok (One (call.Flow flow))
+
+-- a packet that came in, or why none did
+abbrev pub packet_item : Result Packet Reason → Result Item Reason
+packet_item read = read >>= λ packet. Ok (One (call.Packet packet))
 
 -- the head that was read asks with these fields for what the line is read as, or the fault is the reading's
 abbrev pub GivesHead : Result (Option Head) LineFault → List Field → Result Item Reason → Type 0

@@ -1,15 +1,18 @@
 //! The reader of lines.
 ghost use Rattle.std.specs.Prelude.{◌≡◌, Some};
 ghost use Rattle.xf_lex.specs.Plain.{left};
-ghost use Rattle.xf_read.specs.Items.{GivesHead, asked_by, fields_read, words_item, line_item};
+ghost use Rattle.xf_grammar.specs.declared.head.Head.TheVariants as head;
+ghost use Rattle.xf_read.specs.Items.{GivesHead, asked_by, fields_read, flow_item, packet_item, words_item, line_item};
 
 use crate::call::read_asked;
 use crate::fault::ReadFault;
+use crate::flow::read_flow;
+use crate::packet::read_packet;
 use crate::reader::Item;
 use std::alloc::Global;
 use xf_grammar::{Head, HeadTable, Progress, first_in, read_head, tables_in};
 use xf_lex::{LineFault, Scan, Words};
-use xf_types::Reason;
+use xf_types::{Dir, Flow, Packet, Reason};
 
 /// A reader of lines. Its lists serve one line after another, so that a usual line takes no memory.
 #[derive(Debug, Drop)]
@@ -58,6 +61,24 @@ impl LineReader {
         ensures { result ≡ asked_by (Some head) (fields_read self.now) }
     {
         read_asked(head, &self.progress.fields)
+    }
+
+    /// The flow that the line asks for whose fields were read last, where its head is one of flows.
+    #[inline]
+    #[tactic(auto, unfolding(crate::specs::Calls::asked_of))]
+    pub fn flow(&self, dir: Dir) -> Result<Flow, Reason>
+        ensures { flow_item result ≡ asked_by (Some (head.Flow dir)) (fields_read self.now) }
+    {
+        read_flow(dir, &self.progress.fields)
+    }
+
+    /// The packet that the line brings whose fields were read last, where its head is that of packets.
+    #[inline]
+    #[tactic(auto, unfolding(crate::specs::Calls::asked_of))]
+    pub fn packet(&self) -> Result<Packet, Reason>
+        ensures { packet_item result ≡ asked_by (Some head.Packet) (fields_read self.now) }
+    {
+        read_packet(&self.progress.fields)
     }
 
     /// Reads one logical line, whole or as far as it takes to be long, with or without its line feed. `number` is that of
