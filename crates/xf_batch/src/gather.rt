@@ -90,16 +90,10 @@ impl Gather {
     // where it is kept.
 
     #[inline(never)]
-    fn put_flow(
-        &mut self,
-        lines: &LineReader,
-        line: u64,
-        dir: Dir,
-        _now: u64,
-    ) -> Result<bool, PhaseFault>
+    fn put_flow(&mut self, lines: &LineReader, line: u64, dir: Dir) -> Result<bool, PhaseFault>
         requires { 0 < length self.old.threads.items }
-        ensures { (workers : ℕ) (g : Gathered) → Gathers workers self.old g
-            → Puts workers line g (effect_of _now g line (asked_by (Some (head.Flow dir)) (fields_read lines.now))) self.new result }
+        ensures { (workers now : ℕ) (g : Gathered) → Gathers workers self.old g
+            → Puts workers line g (effect_of now g line (asked_by (Some (head.Flow dir)) (fields_read lines.now))) self.new result }
     {
         match lines.flow(dir) {
             Ok(flow) => self.push_line(line, Job::One(Call::Flow(flow))),
@@ -108,10 +102,10 @@ impl Gather {
     }
 
     #[inline(never)]
-    fn put_packet(&mut self, lines: &LineReader, line: u64, _now: u64) -> Result<bool, PhaseFault>
+    fn put_packet(&mut self, lines: &LineReader, line: u64) -> Result<bool, PhaseFault>
         requires { 0 < length self.old.threads.items }
-        ensures { (workers : ℕ) (g : Gathered) → Gathers workers self.old g
-            → Puts workers line g (effect_of _now g line (asked_by (Some head.Packet) (fields_read lines.now))) self.new result }
+        ensures { (workers now : ℕ) (g : Gathered) → Gathers workers self.old g
+            → Puts workers line g (effect_of now g line (asked_by (Some head.Packet) (fields_read lines.now))) self.new result }
     {
         match lines.packet() {
             Ok(packet) => self.push_line(line, Job::One(Call::Packet(packet))),
@@ -153,8 +147,8 @@ impl Gather {
         match asked.head {
             None => Ok(true),
             Some(head) => match head {
-                Head::Flow(dir) => self.put_flow(lines, asked.line, dir, now),
-                Head::Packet => self.put_packet(lines, asked.line, now),
+                Head::Flow(dir) => self.put_flow(lines, asked.line, dir),
+                Head::Packet => self.put_packet(lines, asked.line),
                 _ => match lines.asked(head) {
                     Ok(item) => self.put_item(asked.line, item, now),
                     Err(reason) => Err(PhaseFault::Bad {

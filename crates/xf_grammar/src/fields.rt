@@ -8,7 +8,7 @@ ghost use Rattle.xf_grammar.specs.Tables.{rows_of};
 
 use crate::given::Fields;
 use crate::keyword::{Keyword, is_word};
-use crate::row::{Arg, Args, Field, Row, Slot, Table, Value};
+use crate::row::{Arg, Args, Field, Names, Row, Slot, Table, Value};
 use crate::tables::rows_in;
 use crate::values::{
     addr_value, name_or_prefix, name_or_u8, name_or_u64, name_value, u8_value, u16_value,
@@ -86,8 +86,14 @@ fn is_used(used: &[Used], group: u32, word: &[u8]) -> bool
 }
 
 impl Progress {
-    ghost use Rattle.std.specs.Prelude.{Ok, Some};
+    ghost use Rattle.std.specs.Prelude.{Ok, Err, Some, ◌-◌, ◌^◌};
+    ghost use Rattle.xf_addr.specs.Prefixes.{prefix_of};
+    ghost use Rattle.xf_addr.specs.Reading.{addr_of};
     ghost use Rattle.xf_grammar.specs.declared.row.Args.TheVariants as args;
+    ghost use Rattle.xf_grammar.specs.declared.row.Names.TheVariants as names;
+    ghost use Rattle.xf_grammar.specs.declared.row.Value.TheVariants as value;
+    ghost use Rattle.xf_grammar.specs.Tables.{names_of};
+    ghost use Rattle.xf_grammar.specs.Grammar.{name_in, named_or, number_value, some_addr, some_prefix};
     ghost use Rattle.xf_grammar.specs.Grammar.{start, put, put_read, take_value, entered, kept, enter, enter_found};
 
     pub fn new(alloc: Global) -> Progress
@@ -136,23 +142,104 @@ impl Progress {
         }
     }
 
+    // The values of each kind have a function of their own, which isn't inlined: a function clears all its locals where it begins,
+    // and a word pays for those of its own kind alone.
+
+    #[inline(never)]
+    fn take_u16(&mut self, slot: Slot, low: u16, high: u16, word: &[u8]) -> Result<(), LineFault>
+        ensures { Gives (λ _. seen self.new) result
+            (put_read (seen self.old) self.old.pending slot (number_value value.U16 low high word.now)) }
+    {
+        self.put_read(slot, u16_value(low, high, word))
+    }
+
+    #[inline(never)]
+    fn take_u32(&mut self, slot: Slot, low: u32, high: u32, word: &[u8]) -> Result<(), LineFault>
+        ensures { Gives (λ _. seen self.new) result
+            (put_read (seen self.old) self.old.pending slot (number_value value.U32 low high word.now)) }
+    {
+        self.put_read(slot, u32_value(low, high, word))
+    }
+
+    #[inline(never)]
+    fn take_u64(&mut self, slot: Slot, low: u64, high: u64, word: &[u8]) -> Result<(), LineFault>
+        ensures { Gives (λ _. seen self.new) result
+            (put_read (seen self.old) self.old.pending slot (number_value value.U64 low high word.now)) }
+    {
+        self.put_read(slot, u64_value(low, high, word))
+    }
+
+    #[inline(never)]
+    fn take_addr(&mut self, slot: Slot, word: &[u8]) -> Result<(), LineFault>
+        ensures { Gives (λ _. seen self.new) result
+            (put_read (seen self.old) self.old.pending slot (some_addr (addr_of word.now))) }
+    {
+        self.put_read(slot, addr_value(word))
+    }
+
+    #[inline(never)]
+    fn take_prefix(&mut self, slot: Slot, word: &[u8]) -> Result<(), LineFault>
+        ensures { Gives (λ _. seen self.new) result
+            (put_read (seen self.old) self.old.pending slot (named_or (name_in (names_of names.Anys) word.now) (some_prefix (prefix_of word.now)))) }
+    {
+        self.put_read(slot, name_or_prefix(word))
+    }
+
+    #[inline(never)]
+    fn take_name(&mut self, slot: Slot, names: Names, word: &[u8]) -> Result<(), LineFault>
+        ensures { Gives (λ _. seen self.new) result
+            (put_read (seen self.old) self.old.pending slot (named_or (name_in (names_of names) word.now) (Err Reason.Word))) }
+    {
+        self.put_read(slot, name_value(names, word))
+    }
+
+    #[inline(never)]
+    fn take_name_or_u8(
+        &mut self,
+        slot: Slot,
+        first: Names,
+        second: Names,
+        word: &[u8],
+    ) -> Result<(), LineFault>
+        ensures { Gives (λ _. seen self.new) result
+            (put_read (seen self.old) self.old.pending slot (named_or (name_in (names_of first) word.now)
+            (named_or (name_in (names_of second) word.now) (number_value value.U8 0 255 word.now)))) }
+    {
+        self.put_read(slot, name_or_u8(first, second, word))
+    }
+
+    #[inline(never)]
+    fn take_name_or_u64(&mut self, slot: Slot, names: Names, word: &[u8]) -> Result<(), LineFault>
+        ensures { Gives (λ _. seen self.new) result
+            (put_read (seen self.old) self.old.pending slot (named_or (name_in (names_of names) word.now)
+            (number_value value.U64 0 (2 ^ 64 - 1) word.now))) }
+    {
+        self.put_read(slot, name_or_u64(names, word))
+    }
+
+    #[inline(never)]
+    fn take_u8(&mut self, slot: Slot, low: u8, high: u8, word: &[u8]) -> Result<(), LineFault>
+        ensures { Gives (λ _. seen self.new) result
+            (put_read (seen self.old) self.old.pending slot (number_value value.U8 low high word.now)) }
+    {
+        self.put_read(slot, u8_value(low, high, word))
+    }
+
     // Reads a value, and puts it in its place. What comes behind it is pending already.
     #[tactic(auto, unfolding(crate::specs::Grammar::value_in))]
     fn take_value(&mut self, arg: Arg, word: &[u8]) -> Result<(), LineFault>
         ensures { Gives (λ _. seen self.new) result (take_value (seen self.old) arg self.old.pending word.now) }
     {
         match arg {
-            Arg::U8(slot, low, high) => self.put_read(slot, u8_value(low, high, word)),
-            Arg::U16(slot, low, high) => self.put_read(slot, u16_value(low, high, word)),
-            Arg::U32(slot, low, high) => self.put_read(slot, u32_value(low, high, word)),
-            Arg::U64(slot, low, high) => self.put_read(slot, u64_value(low, high, word)),
-            Arg::NameOrU8(slot, first, second) => {
-                self.put_read(slot, name_or_u8(first, second, word))
-            }
-            Arg::NameOrU64(slot, names) => self.put_read(slot, name_or_u64(names, word)),
-            Arg::Name(slot, names) => self.put_read(slot, name_value(names, word)),
-            Arg::Addr(slot) => self.put_read(slot, addr_value(word)),
-            Arg::Prefix(slot) => self.put_read(slot, name_or_prefix(word)),
+            Arg::U8(slot, low, high) => self.take_u8(slot, low, high, word),
+            Arg::U16(slot, low, high) => self.take_u16(slot, low, high, word),
+            Arg::U32(slot, low, high) => self.take_u32(slot, low, high, word),
+            Arg::U64(slot, low, high) => self.take_u64(slot, low, high, word),
+            Arg::NameOrU8(slot, first, second) => self.take_name_or_u8(slot, first, second, word),
+            Arg::NameOrU64(slot, names) => self.take_name_or_u64(slot, names, word),
+            Arg::Name(slot, names) => self.take_name(slot, names, word),
+            Arg::Addr(slot) => self.take_addr(slot, word),
+            Arg::Prefix(slot) => self.take_prefix(slot, word),
             Arg::Forgotten => Ok(()),
         }
     }
