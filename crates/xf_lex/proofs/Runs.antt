@@ -4,7 +4,8 @@ use Rattle.std.proofs.lemmas.Bool.Decides.{nat_tests}
 use Rattle.xf_lex.specs.declared.quoting.Quoting.TheVariants.{Bare}
 use Rattle.xf_lex.specs.Lexing.{Word, Lexed, keep, onto, extended, bare_turn, turn, turn_at}
 use Rattle.xf_lex.specs.Lines.{Scanned, scan_turn, run_turn, scanned_from}
-use Rattle.xf_lex.specs.Quotes.{is_plain, plain_count, counted, is_slash, is_strange}
+use Rattle.xf_lex.specs.Quotes.{counted, is_slash, is_strange}
+use Rattle.xf_bytes.specs.Runs.{is_plain, plain_count}
 
 -- a byte that goes on with a word
 onto_is : (w : Option Word) (b : ℕ) → onto w b ≡ Some (unwrap_or w [] ++ b ∷ [])

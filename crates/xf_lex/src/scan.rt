@@ -3,16 +3,17 @@ ghost use Rattle.std.specs.Prelude.{◌≡◌, ◌≤◌, ◌<◌, ◌+◌, leng
 ghost use Rattle.xf_lex.specs.Gives.{Gives};
 ghost use Rattle.xf_lex.specs.Lines.{line_start, scan_turn, run_turn, finished, words_of};
 ghost use Rattle.xf_lex.specs.Plain.{left};
-ghost use Rattle.xf_lex.specs.Quotes.{plain_count};
+ghost use Rattle.xf_bytes.specs.Runs.{plain_count};
 ghost use Rattle.xf_lex.specs.declared.quoting.Quoting.TheVariants.{Bare};
 ghost use Rattle.xf_lex.specs.Shown.{shown, scanned};
 
 use crate::fault::LineFault;
 use crate::lexer::Lexer;
 use crate::plain::plain_front;
-use crate::quoting::{Quoting, plain_count};
+use crate::quoting::Quoting;
 use crate::words::Words;
 use std::alloc::{AllocError, Global};
+use xf_bytes::plain_count;
 use xf_types::Reason;
 
 // How many bytes a logical line may have.
