@@ -21,25 +21,31 @@ record IsSteady (m : Quoting) (b : ℕ) : Type 0 where
   same : after m b ≡ m
   one : counted m b ≡ 1
 
-mild_steady : (b : ℕ) → is_mild b ≡ true → IsSteady Bare b
-mild_steady b mild = record { on = grind (arith, nat_tests); same = grind (arith, nat_tests); one = grind (arith, nat_tests) }
+bare_steady : (b : ℕ) → is_mild b ≡ true → IsSteady Bare b
+bare_steady b mild = record { on = grind (arith, nat_tests); same = grind (arith, nat_tests); one = grind (arith, nat_tests) }
+
+single_steady : (b : ℕ) → is_mild b ≡ true → IsSteady Single b
+single_steady b mild = record { on = grind (arith, nat_tests); same = grind (arith, nat_tests); one = grind (arith, nat_tests) }
+
+double_steady : (b : ℕ) → is_mild b ≡ true → IsSteady Double b
+double_steady b mild = record { on = grind (arith, nat_tests); same = grind (arith, nat_tests); one = grind (arith, nat_tests) }
 
 comment_steady : (b : ℕ) → eqb b 10 ≡ false → IsSteady Comment b
 comment_steady b other = record { on = grind (arith, nat_tests); same = refl; one = grind (arith, nat_tests) }
 
-first_mild : (b k n : ℕ) (t : Bool) → is_mild b ≡ t → suc k ≤ cond t (1 + n) 0 → IsSteady Bare b × (k ≤ n)
-first_mild b k n true is low = (mild_steady b is, omega (arith, low))
-first_mild b k n false is low = absurd (omega (arith, low))
+first_mild : (k n : ℕ) (t : Bool) → suc k ≤ cond t (1 + n) 0 → (t ≡ true) × (k ≤ n)
+first_mild k n true low = (refl, omega (arith, low))
+first_mild k n false low = absurd (omega (arith, low))
 
 first_feedless : (b k n : ℕ) (t : Bool) → eqb b 10 ≡ t → suc k ≤ cond t 0 (1 + n) → IsSteady Comment b × (k ≤ n)
 first_feedless b k n true is low = absurd (omega (arith, low))
 first_feedless b k n false is low = (comment_steady b is, omega (arith, low))
 
 first_steady : (m : Quoting) (b : ℕ) (bs : List ℕ) (k : ℕ) → suc k ≤ steady_count m (b ∷ bs) → IsSteady m b × (k ≤ steady_count m bs)
-first_steady Bare b bs k low = first_mild b k (mild_count bs) (is_mild b) refl low
+first_steady Bare b bs k low = let first = first_mild k (mild_count bs) (is_mild b) low in (bare_steady b first.0, first.1)
+first_steady Single b bs k low = let first = first_mild k (mild_count bs) (is_mild b) low in (single_steady b first.0, first.1)
+first_steady Double b bs k low = let first = first_mild k (mild_count bs) (is_mild b) low in (double_steady b first.0, first.1)
 first_steady Comment b bs k low = first_feedless b k (feedless_count bs) (eqb b 10) refl low
-first_steady Single b bs k low = absurd (omega (arith, low))
-first_steady Double b bs k low = absurd (omega (arith, low))
 first_steady BareSlash b bs k low = absurd (omega (arith, low))
 first_steady SingleSlash b bs k low = absurd (omega (arith, low))
 first_steady DoubleSlash b bs k low = absurd (omega (arith, low))

@@ -46,8 +46,8 @@ Walks front piece s walked.GoesOn = Scans (front ++ piece) s
 -- how many bytes from the first on are known to leave what stands behind them as it is, and to count for one each
 abbrev pub steady_count : Quoting → List ℕ → ℕ
 steady_count Bare bytes = mild_count bytes
-steady_count Single bytes = 0
-steady_count Double bytes = 0
+steady_count Single bytes = mild_count bytes
+steady_count Double bytes = mild_count bytes
 steady_count Comment bytes = feedless_count bytes
 steady_count BareSlash bytes = 0
 steady_count SingleSlash bytes = 0

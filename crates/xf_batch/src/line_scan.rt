@@ -32,7 +32,7 @@ fn steady_count(quoting: Quoting, bytes: &[u8]) -> usize
     ensures within { result ≤ length bytes.now }
 {
     match quoting {
-        Quoting::Bare => mild_count(bytes),
+        Quoting::Bare | Quoting::Single | Quoting::Double => mild_count(bytes),
         Quoting::Comment => feedless_count(bytes),
         _ => 0,
     }

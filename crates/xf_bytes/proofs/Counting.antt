@@ -7,11 +7,15 @@ use Rattle.std.proofs.lemmas.List.{take_all}
 use Rattle.std.proofs.lemmas.List.Folds.{prefix_len-append}
 use Rattle.std.proofs.lemmas.List.Sums.{prefix_len-le-length}
 use Rattle.std.proofs.lemmas.Simd.{length-chunk}
-use Rattle.xf_bytes.specs.Runs.{is_mild, mild_count, is_feedless, feedless_count}
+use Rattle.xf_bytes.specs.Runs.{is_mild, mild_count, is_plain, plain_count, is_feedless, feedless_count}
 
 pub mild_count-prefix_len : (bytes : List ℕ) → mild_count bytes ≡ prefix_len is_mild bytes
 mild_count-prefix_len [] = refl
 mild_count-prefix_len (b ∷ bs) = ap (λ n. cond (is_mild b) (1 + n) 0) (mild_count-prefix_len bs)
+
+pub plain_count-prefix_len : (bytes : List ℕ) → plain_count bytes ≡ prefix_len is_plain bytes
+plain_count-prefix_len [] = refl
+plain_count-prefix_len (b ∷ bs) = ap (λ n. cond (is_plain b) (1 + n) 0) (plain_count-prefix_len bs)
 
 feedless_of : (t : Bool) (n : ℕ) → cond t 0 (1 + n) ≡ cond (not t) (1 + n) 0
 feedless_of true n = refl

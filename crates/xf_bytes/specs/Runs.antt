@@ -12,6 +12,17 @@ abbrev pub mild_count : List ℕ → ℕ
 mild_count [] = 0
 mild_count (b ∷ bs) = if is_mild b then 1 + mild_count bs else 0
 
+-- a byte that outside quotes goes on with its word: a mild one that parts no words
+abbrev pub is_plain : ℕ → Bool
+is_plain b =
+    nat_le 33 b
+    && (nat_le b 126 && (not (b == 34) && (not (b == 35) && (not (b == 39) && not (b == 92)))))
+
+-- how many bytes from the first on do
+abbrev pub plain_count : List ℕ → ℕ
+plain_count [] = 0
+plain_count (b ∷ bs) = if is_plain b then 1 + plain_count bs else 0
+
 -- a byte other than a line feed
 abbrev pub is_feedless : ℕ → Bool
 is_feedless b = not (b == 10)

@@ -3,7 +3,7 @@ ghost use Rattle.std.specs.Prelude.{◌≡◌, ℕ, ◌+◌, ◌≤◌, Bool, le
 ghost use Rattle.std.specs.List.{prefix_len};
 ghost use Rattle.std.specs.Simd.Lanes.{chunk};
 ghost use Rattle.xf_bytes.specs.Lanes.{first_set};
-ghost use Rattle.xf_bytes.specs.Runs.{is_feedless, is_mild};
+ghost use Rattle.xf_bytes.specs.Runs.{is_feedless, is_mild, is_plain};
 
 use std::simd::prelude::*;
 
@@ -25,6 +25,9 @@ pub(crate) trait Kind {
 
 /// The bytes that mean the same wherever outside quotes and comments they stand.
 pub(crate) struct Mild;
+
+/// The bytes that outside quotes go on with their word.
+pub(crate) struct Plain;
 
 /// All bytes but the line feed.
 pub(crate) struct Feedless;
@@ -63,6 +66,26 @@ impl Kind for Mild {
         let breaks = (v | u8x16::splat(1)).simd_eq(u8x16::splat(b'#'))
             | v.simd_eq(u8x16::splat(b'\''))
             | v.simd_eq(u8x16::splat(b'\\'));
+        first_set((odd | breaks).to_bitmask())
+    }
+}
+
+impl Kind for Plain {
+    ghost has = { λ _. is_plain };
+
+    #[inline(always)]
+    fn holds(&self, byte: u8) -> bool {
+        33 <= byte && byte <= 126 && byte != b'"' && byte != b'#' && byte != b'\'' && byte != b'\\'
+    }
+
+    #[inline(always)]
+    fn run(&self, bytes: &[u8], at: usize) -> usize {
+        let v = u8x16::from_slice(&bytes[at..]);
+        let odd = (v - u8x16::splat(33)).simd_gt(u8x16::splat(93));
+        // The last test takes a double quote, too.
+        let breaks = v.simd_eq(u8x16::splat(b'\''))
+            | v.simd_eq(u8x16::splat(b'\\'))
+            | (v | u8x16::splat(1)).simd_eq(u8x16::splat(b'#'));
         first_set((odd | breaks).to_bitmask())
     }
 }

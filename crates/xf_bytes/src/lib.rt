@@ -4,7 +4,7 @@
 mod kinds;
 mod runs;
 
-pub use runs::{feedless_count, mild_count};
+pub use runs::{feedless_count, mild_count, plain_count};
 
 #[cfg(test)]
 mod tests;

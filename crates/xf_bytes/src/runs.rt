@@ -1,9 +1,9 @@
 //! Runs of bytes of one kind.
 ghost use Rattle.std.specs.Prelude.{◌≡◌, ◌≤◌, length};
 ghost use Rattle.std.specs.List.{prefix_len};
-ghost use Rattle.xf_bytes.specs.Runs.{feedless_count, mild_count};
+ghost use Rattle.xf_bytes.specs.Runs.{feedless_count, mild_count, plain_count};
 
-use crate::kinds::{Feedless, Kind, LANES, Mild};
+use crate::kinds::{Feedless, Kind, LANES, Mild, Plain};
 
 // A slice that is shorter than a vector.
 #[inline(always)]
@@ -47,6 +47,14 @@ pub fn mild_count(bytes: &[u8]) -> usize
     ensures within { result ≤ length bytes.now }
 {
     count_front(&Mild, bytes)
+}
+
+/// How many bytes from the first on go on with a word outside quotes.
+pub fn plain_count(bytes: &[u8]) -> usize
+    ensures count { result ≡ plain_count bytes.now }
+    ensures within { result ≤ length bytes.now }
+{
+    count_front(&Plain, bytes)
 }
 
 /// How many bytes from the first on are no line feed.

@@ -5,8 +5,8 @@ use Rattle.xf_lex.specs.declared.quoting.Quoting.{Quoting}
 use Rattle.xf_lex.specs.declared.quoting.Quoting.TheVariants.{Bare, Comment}
 use Rattle.xf_lex.specs.Lexing.{Word, Lexed, close, closed, is_blank, keep, onto, bare_turn}
 use Rattle.xf_lex.specs.Lines.{Scanned, scan_turn, scanned_from, words_of}
-use Rattle.xf_lex.specs.Quotes.{is_plain, counted, is_strange}
-use Rattle.xf_bytes.specs.Runs.{is_mild, mild_count}
+use Rattle.xf_lex.specs.Quotes.{counted, is_strange}
+use Rattle.xf_bytes.specs.Runs.{is_mild, is_plain, mild_count}
 use Rattle.xf_lex.specs.Plain.{is_gap, split_from, split, is_empty, is_end}
 use Rattle.xf_lex.proofs.Splits.{one_more}
 

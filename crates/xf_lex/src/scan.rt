@@ -3,14 +3,12 @@ ghost use Rattle.std.specs.Prelude.{◌≡◌, ◌≤◌, ◌<◌, ◌+◌, leng
 ghost use Rattle.xf_lex.specs.Gives.{Gives};
 ghost use Rattle.xf_lex.specs.Lines.{line_start, scan_turn, run_turn, finished, words_of};
 ghost use Rattle.xf_lex.specs.Plain.{left};
-ghost use Rattle.xf_lex.specs.Quotes.{plain_count};
-ghost use Rattle.xf_lex.specs.declared.quoting.Quoting.TheVariants.{Bare};
+ghost use Rattle.xf_lex.specs.Quotes.{run_count};
 ghost use Rattle.xf_lex.specs.Shown.{shown, scanned};
 
 use crate::fault::LineFault;
 use crate::lexer::Lexer;
 use crate::plain::plain_front;
-use crate::quoting::{Quoting, plain_count};
 use crate::words::Words;
 use std::alloc::{AllocError, Global};
 use xf_types::Reason;
@@ -60,18 +58,15 @@ impl Scan {
         self.lexer.turn(alloc, byte)
     }
 
-    // How many bytes may be taken together: those that go on with a word outside quotes, while the line isn't long.
+    // How many bytes may be taken together, while the line isn't long.
     fn run_length(&self, rest: &[u8]) -> usize
         requires { self.now.length ≤ 4096 }
-        ensures few { result ≤ plain_count rest.now }
+        ensures few { result ≤ run_count self.now.lexer.quoting rest.now }
         ensures within { result ≤ length rest.now }
         ensures room { self.now.length + result ≤ 4096 }
-        ensures bare { 0 < result → self.now.lexer.quoting ≡ Bare }
     {
-        match self.lexer.quoting {
-            Quoting::Bare => plain_count(rest).min((LINE_LIMIT - self.length) as usize),
-            _ => 0,
-        }
+        let room = (LINE_LIMIT - self.length) as usize;
+        self.lexer.quoting.run_count(rest).min(room)
     }
 
     fn take_run(&mut self, alloc: Global, run: &[u8]) -> Result<(), AllocError>
