@@ -1,5 +1,5 @@
 -- What is said of a phase that ends, or is refused.
-use Rattle.std.proofs.Common.{◌≡◌, inl, inr, ℕ, ◌+◌, ◌<◌, ◌≤◌, Bool, true, false, not, List, [], ◌∷◌, ◌++◌, map, length, sum, drop, take, Option, Result, Ok, Err, refl, sym, ap, ◌∙◌, arith, append_assoc, length-drop}
+use Rattle.std.proofs.Common.{◌≡◌, inl, inr, ℕ, ◌<◌, ◌≤◌, Bool, true, false, not, List, [], ◌∷◌, ◌++◌, map, length, sum, take, Option, Result, Ok, Err, refl, sym, ap, ◌∙◌, arith, append_assoc, length-drop}
 use Rattle.std.specs.List.{concat, filter}
 use Rattle.std.proofs.KnownBytes.{Consumes-trans}
 use Rattle.std.proofs.Math.Seq.{take-nil}
@@ -17,9 +17,9 @@ use Rattle.xf_batch.specs.declared.fault.PhaseFault.TheVariants as fault
 use Rattle.xf_batch.specs.declared.gather.Gather.{Gather}
 use Rattle.xf_batch.specs.declared.items.Asked.{Asked}
 use Rattle.xf_batch.specs.declared.phase.Phase.{Phase}
-use Rattle.xf_batch.specs.Asking.{Asks, EndsLine, IsAllRead, IsAsked, IsBadLine, IsBadNext, IsNoLine}
-use Rattle.xf_batch.specs.Batch.{Effect, IsBad, GoesOn, Ends, Gathered, Standing, batch_at, batch_from, beginning, behind, by_effect, effect_of, followed, judged, later, line_effect, passes_limit, refused_at, whole_batch_at}
-use Rattle.xf_batch.specs.Coming.{Breaks, room_of, seen_to_come}
+use Rattle.xf_batch.specs.Asking.{Asks, EndsLine, IsAllRead, IsAsked, IsNoLine}
+use Rattle.xf_batch.specs.Batch.{Effect, IsBad, GoesOn, Ends, Gathered, Standing, batch_at, batch_from, beginning, effect_of, followed, judged, later, passes_limit, refused_at, whole_batch_at}
+use Rattle.xf_batch.specs.Coming.{room_of, seen_to_come}
 use Rattle.xf_batch.specs.Gathers.{Gathers, Puts}
 use Rattle.xf_batch.specs.LineEnds.{has_feed}
 use Rattle.xf_batch.specs.Reading.{GivesPhase, HasPassed, MayFollow, ReadsPhase, standing, unread_bytes}

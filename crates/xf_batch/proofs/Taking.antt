@@ -1,5 +1,5 @@
 -- The next line among the bytes to come, taken from the unread ones.
-use Rattle.std.proofs.Common.{◌≡◌, inl, inr, ℕ, ◌+◌, ◌-◌, ◌<◌, ◌≤◌, ◌||◌, Bool, true, false, List, [], ◌∷◌, ◌++◌, length, take, drop, refl, sym, ap, subst, ◌∙◌, arith, Option, Some, None, Ok, Err, Result, nat_le, min, append_assoc, length-take, length-take-le, take-append-drop}
+use Rattle.std.proofs.Common.{◌≡◌, inl, inr, ℕ, ◌+◌, ◌-◌, ◌<◌, ◌≤◌, ◌||◌, Bool, true, false, List, [], ◌∷◌, ◌++◌, length, take, drop, refl, sym, ap, subst, ◌∙◌, arith, Option, Some, None, Ok, Err, nat_le, min, append_assoc, length-take, length-take-le, take-append-drop}
 use Rattle.std.proofs.lemmas.Bool.Decides.{nat_tests}
 use Rattle.std.proofs.lemmas.List.{drop-take, drop-append-le, drop_all}
 use Rattle.xf_types.specs.declared.status.Reason.TheVariants as reason
@@ -11,9 +11,9 @@ use Rattle.xf_lex.specs.declared.quoting.Quoting.TheVariants.{Bare}
 use Rattle.xf_lex.specs.LogicalLines.{lines_of}
 use Rattle.xf_batch.specs.declared.fault.PhaseFault.{PhaseFault}
 use Rattle.xf_batch.specs.declared.fault.PhaseFault.TheVariants as fault
-use Rattle.xf_batch.specs.Asking.{Asks, EndsLine, GivesJudged, IsAllRead, Takes}
+use Rattle.xf_batch.specs.Asking.{Asks, EndsLine, GivesJudged, Takes}
 use Rattle.xf_batch.specs.Batch.{Standing, behind, limit, judged, passes_limit}
-use Rattle.xf_batch.specs.Coming.{BreaksOff, EndsLast, Grows, IsLastLine, IsLongNext, IsNextLine, ReadsOn, is_all, room_of, seen_to_come}
+use Rattle.xf_batch.specs.Coming.{BreaksOff, EndsLast, Grows, IsLongNext, IsNextLine, ReadsOn, room_of, seen_to_come}
 use Rattle.xf_batch.specs.LineEnds.{ends_within, has_feed}
 use Rattle.xf_batch.specs.Reading.{standing, unread_bytes}
 use Rattle.xf_batch.proofs.Lines.{ends_within-take}

@@ -1,5 +1,5 @@
 -- The batch of an input: its phases, and its first bad line if it has one.
-use Rattle.std.specs.Prelude.{ℕ, ◌+◌, ◌-◌, ◌^◌, Bool, true, false, ◌&&◌, ◌||◌, nat_lt, nat_le, count_by, if◌then◌else◌, List, [], ◌∷◌, ◌++◌, length, map, take, sum, Option, None, Some, Result, Ok, Err}
+use Rattle.std.specs.Prelude.{ℕ, ◌+◌, ◌-◌, Bool, true, false, ◌&&◌, ◌||◌, nat_lt, nat_le, count_by, if◌then◌else◌, List, [], ◌∷◌, ◌++◌, length, map, take, sum, Option, None, Some, Result, Ok, Err}
 use Rattle.xf_types.specs.declared.call.Call.{Call}
 use Rattle.xf_types.specs.declared.call.Call.TheVariants as call
 use Rattle.xf_types.specs.declared.status.Reason.{Reason}
