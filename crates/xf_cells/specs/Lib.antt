@@ -1,0 +1,5 @@
+pub mod Words
+pub mod Pools
+pub mod Hashing
+pub mod Frees
+pub mod OneSlot
