@@ -1,0 +1,9 @@
+pub mod Slots
+pub mod Places
+pub mod Paths
+pub mod Changes
+pub mod Beside
+pub mod Walks
+pub mod Stops
+pub mod Neighbours
+pub mod Emptied
