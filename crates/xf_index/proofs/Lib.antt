@@ -1,0 +1,17 @@
+pub mod Entries
+pub mod Turned
+pub mod Picks
+pub mod Holds
+pub mod Columns
+pub mod Parts
+pub mod Frames
+pub mod Siblings
+pub mod Stays
+pub mod Puts
+pub mod Takes
+pub mod Rebuilds
+pub mod Latest
+pub mod Alls
+pub mod Neighbours
+pub mod Walked
+pub mod Finds

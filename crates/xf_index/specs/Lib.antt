@@ -1,0 +1,9 @@
+pub mod Indexes
+pub mod Parts
+pub mod Finds
+pub mod ChangeLaws
+pub mod LastFirstLaws
+pub mod AllLaws
+pub mod WalkLaws
+pub mod FindLaws
+pub mod ListLaws
