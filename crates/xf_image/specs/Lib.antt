@@ -1,0 +1,14 @@
+pub mod Layout
+pub mod ExactKeys
+pub mod Policies
+pub mod Readings
+pub mod Entries
+pub mod Placing
+pub mod Writes
+pub mod Frames
+pub mod LayoutLaws
+pub mod ChangeLaws
+pub mod FrameLaws
+pub mod SlotLaws
+pub mod WalkLaws
+pub mod KeyLaws

@@ -1,0 +1,7 @@
+//! What applies to a flow stands in one chain of the exact part, or among the others.
+ghost use Rattle.xf_image.specs.KeyLaws.{KeyLaws};
+
+/// The laws of the exact part's chains. No code calls this function; proofs cite the lemmas.
+pub fn exact_law()
+    ensures { KeyLaws }
+{}
