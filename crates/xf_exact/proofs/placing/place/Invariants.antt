@@ -1,0 +1,21 @@
+use Rattle.std.proofs.Common.{◌≡◌, ℕ, ◌+◌, ◌*◌, ◌≤◌, List, None}
+use Rattle.xf_cells.specs.Words.{Narrows}
+use Rattle.xf_chain.specs.Chains.{Below, slots_of, slots_from}
+use Rattle.xf_chain.specs.Families.{last_while}
+use Rattle.xf_image.specs.Placing.{stays_before}
+use Rattle.xf_exact.proofs.placing.place.Given as goal
+
+abbrev pub invariant-slots : goal.invariant-slots
+invariant-slots g l = record {
+  size : g.L.Load.size l.l ≡ g.L.Load.size l.fn.l;
+  begun : g.L.Load.begun l.l ≡ g.L.Load.begun l.fn.l;
+  rest : g.L.Load.rest l.l ≡ g.L.Load.rest l.fn.l;
+  among : Narrows (g.L.Load.agrees l.fn.l) (g.L.Load.agrees l.l);
+  below : Below l.chain.slots l.walk.at;
+  last : Below l.area.slots l.last;
+  most : g.L.Load.loads l.l + 3 * l.walk.left ≤ g.L.Load.loads l.fn.l + 1 + 3 * l.chain.slots;
+  answer : (image : List ℕ) → g.L.Load.agrees l.l image → last_while (stays_before l.area image l.priority l.number) l.last (slots_from l.chain image l.walk.left l.walk.at) ≡ last_while (stays_before l.area image l.priority l.number) None (slots_of l.chain image);
+}
+
+abbrev pub decreases-slots : goal.decreases-slots
+decreases-slots g l = l.walk.left

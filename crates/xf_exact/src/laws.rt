@@ -1,0 +1,19 @@
+//! Laws of the definitions. No code calls these functions; proofs cite the lemmas.
+ghost use Rattle.xf_exact.specs.HitLaws.{HitLaws};
+ghost use Rattle.xf_exact.specs.PartLaws.{PartLaws};
+ghost use Rattle.xf_exact.specs.WalkLaws.{WalkLaws};
+
+/// What walks along a chain of an index find, and where those for places end.
+pub fn walks()
+    ensures { WalkLaws }
+{}
+
+/// A hit is the first entry, and the better one of two is asked first.
+pub fn hits()
+    ensures { HitLaws }
+{}
+
+/// Nothing is lost by asking the two parts.
+pub fn parts()
+    ensures { PartLaws }
+{}
