@@ -1,0 +1,48 @@
+//! The policy that a key names.
+ghost use Rattle.std.specs.Prelude.{◌≡◌, ◌≤◌, ◌*◌, ◌+◌, ℕ, List, IfErr};
+ghost use Rattle.xf_types.specs.declared.policy.Policy.{Policy};
+ghost use Rattle.xf_types.specs.Machine.{Shown};
+ghost use Rattle.xf_types.specs.PolicyRules.{policy_get};
+ghost use Rattle.xf_cells.specs.Words.{Narrows};
+ghost use Rattle.xf_image.specs.Layout.{Fits};
+ghost use Rattle.xf_image.specs.Policies.{PoliciesStand};
+ghost use Rattle.xf_spd.specs.Calls.{named_reply};
+ghost use Rattle.xf_spd.specs.Replies.{IsKeyFault, policy_reply};
+
+use crate::entry::Entry;
+use crate::faults::SpdFault;
+use crate::naming::is_bad_key;
+use crate::spd::Spd;
+use xf_cells::Load;
+use xf_types::{Policy, PolicyKey};
+
+/// The policy of what is found.
+fn told(entry: Option<Entry>) -> Result<Policy, SpdFault>
+    ensures is { result ≡ named_reply entry }
+    ensures fault { IfErr result IsKeyFault }
+{
+    match entry {
+        None => Err(SpdFault::NoEntry),
+        Some(Entry { slot: _, policy }) => Ok(policy),
+    }
+}
+
+impl Spd {
+    /// The policy that a key names. It is Invalid or NoEntry where there is none.
+    pub fn get<L: Load>(&self, l: &mut L, key: &PolicyKey) -> Result<Policy, SpdFault>
+        requires { Fits self.now.area (L.size l.old) }
+        ensures size { L.size l.new ≡ L.size l.old }
+        ensures begun { L.begun l.new ≡ L.begun l.old }
+        ensures rest { L.rest l.new ≡ L.rest l.old }
+        ensures among { Narrows (L.agrees l.old) (L.agrees l.new) }
+        ensures loads { L.loads l.new ≤ L.loads l.old + 105 + 16 * self.now.area.slots }
+        ensures fault { IfErr result IsKeyFault }
+        ensures answer { (image : List ℕ) (s : Shown) (es : List (ℕ × Policy)) → L.agrees l.new image → PoliciesStand self.now.area image s es → policy_reply result ≡ (policy_get s key.now).reply }
+    {
+        if is_bad_key(key) {
+            return Err(SpdFault::Invalid);
+        }
+        let entry = self.named(l, key);
+        told(entry)
+    }
+}
