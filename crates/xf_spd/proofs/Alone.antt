@@ -27,6 +27,7 @@ use Rattle.xf_image.proofs.Parts.{misses_both, left_is}
 use Rattle.xf_index.specs.Finds.{Found}
 use Rattle.xf_index.proofs.Alls.{all_apart}
 use Rattle.xf_spd.specs.declared.entry.Entry.{Entry}
+use Rattle.xf_spd.proofs.Named.{turned}
 
 -- no two pass
 abbrev pub Alone : (Policy → Bool) → List Policy → Type 0
@@ -34,7 +35,7 @@ Alone test ps = AllPairs (λ p q. test p ≡ true → test q ≡ true → ⊥) p
 
 -- ---- the others fail
 
-fails_by : (b : Bool) → (b ≡ true → ⊥) → b ≡ false
+pub fails_by : (b : Bool) → (b ≡ true → ⊥) → b ≡ false
 fails_by true f = absurd (f refl)
 fails_by false f = refl
 
@@ -122,14 +123,9 @@ pub key_alone : (s : Shown) (k : PolicyKey) → IsPolicyList s → Alone (has_ke
 key_alone s (key.Index dir index) l = index_alone s index l
 key_alone s (key.Same dir ptype sel mark if_id) l = under_alone s dir ptype sel mark if_id l
 
-turn : (a b : PolicySpec) → is_same a b ≡ true → is_same b a ≡ true
-turn a b e =
-    let s : AreSame a b = (Decides-is_same a b).0 e in
-    (Decides-is_same b a).1 (record { dir = sym s.dir; ptype = sym s.ptype; if_id = sym s.if_id; sel = sym s.sel; mark = sym s.mark })
-
 pub same_alone : (s : Shown) (spec : PolicySpec) → IsPolicyList s → Alone (λ p. is_same p.spec spec) s.policies
 same_alone s spec l = λ i j d lt within e h.
-    l.keys i j d lt within (is_true _ (both_same spec (get_or s.policies i d).spec (get_or s.policies j d).spec (turn (get_or s.policies i d).spec spec e) (turn (get_or s.policies j d).spec spec h)))
+    l.keys i j d lt within (is_true _ (both_same spec (get_or s.policies i d).spec (get_or s.policies j d).spec (turned (get_or s.policies i d).spec spec e) (turned (get_or s.policies j d).spec spec h)))
 
 -- ---- the shorter list is in order
 

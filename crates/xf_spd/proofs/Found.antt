@@ -22,7 +22,7 @@ use Rattle.xf_exact.proofs.HitLaws.{hit_policy as policy_of_hit}
 use Rattle.xf_exact.proofs.PartLaws.{parts_first, stand_tell}
 use Rattle.xf_spd.specs.Firsts.{hit_policy, first_in, first_policy_in}
 use Rattle.xf_spd.specs.Walks.{slot_with}
-use Rattle.xf_spd.proofs.Alone.{Alone, all_fail, index_alone}
+use Rattle.xf_spd.proofs.Alone.{Alone, all_fail, fails_by, index_alone}
 use Rattle.xf_spd.proofs.Named.{slot_with_is}
 
 -- ---- the first that applies
@@ -62,10 +62,6 @@ all_at : (test : Policy → Bool) (b : Bool) (slot : ℕ) (p : Policy) (front ba
 all_at test b slot p [] back a = a.0
 all_at test b slot p (x ∷ front) back a = all_at test b slot p front back a.1
 
-false_by : (b : Bool) → (b ≡ true → ⊥) → b ≡ false
-false_by true f = absurd (f refl)
-false_by false f = refl
-
 true_false : (b : Bool) → b ≡ true → b ≡ false → ⊥
 true_false b e h = let k : true ≡ false = sym e ∙ h in absurd (cc)
 
@@ -74,7 +70,7 @@ alone_found : (test : Policy → Bool) (slot : ℕ) (p : Policy) (front back : L
     → found_in test (front ++ ((slot, p) ∷ back)) ≡ Some (slot, p)
 alone_found test slot p [] back a h = ap (λ (b : Bool). cond b (Some (slot, p)) (found_in test back)) h
 alone_found test slot p (x ∷ front) back a h =
-    let f : test x.1 ≡ false = false_by (test x.1) (λ e. true_false (test p) h
+    let f : test x.1 ≡ false = fails_by (test x.1) (λ e. true_false (test p) h
     (all_at test false slot p front back (all_fail test x.1 (front ++ ((slot, p) ∷ back)) e (λ j d l. a 0 (suc j) d (omega arith) (omega arith))))) in
     ap (λ (b : Bool). cond b (Some x) (found_in test (front ++ ((slot, p) ∷ back)))) f
     ∙ alone_found test slot p front back (λ i j d lt within. a (suc i) (suc j) d (omega arith) (omega arith)) h

@@ -12,3 +12,4 @@ pub mod Updated
 pub mod Found
 pub mod Settled
 pub mod Fitting
+pub mod Begins

@@ -129,7 +129,7 @@ pub slot_named_is : (a : PolicyArea) (image : List ℕ) (s : Shown) (es : List (
 slot_named_is a image s es (key.Index dir index) g = slot_with_is a image s es index g
 slot_named_is a image s es (key.Same dir ptype sel mark if_id) g = slot_under_is a image s es dir ptype sel mark if_id g
 
-turned : (a b : PolicySpec) → is_same a b ≡ true → is_same b a ≡ true
+pub turned : (a b : PolicySpec) → is_same a b ≡ true → is_same b a ≡ true
 turned a b e =
     let s : AreSame a b = (Decides-is_same a b).0 e in
     (Decides-is_same b a).1 (record { dir = sym s.dir; ptype = sym s.ptype; if_id = sym s.if_id; sel = sym s.sel; mark = sym s.mark })

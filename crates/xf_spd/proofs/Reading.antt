@@ -17,6 +17,7 @@ use Rattle.xf_image.specs.Layout.{order_of, record_at}
 use Rattle.xf_image.specs.Policies.{PoliciesStand}
 use Rattle.xf_image.specs.Readings.{next_index_in, next_number_in, hthresh4_in, hthresh6_in, listed_in}
 use Rattle.xf_image.proofs.Listed.{listed_is}
+use Rattle.xf_exact.proofs.PartLaws.{stand_tell}
 use Rattle.xf_spd.specs.Header.{count_in}
 use Rattle.xf_spd.specs.Walks.{nth_on}
 
@@ -31,16 +32,11 @@ next_index_is a image s es range g = let c = g.counters.next_index in let r = ra
 pub next_number_is : (a : PolicyArea) (image : List ℕ) (s : Shown) (es : List (ℕ × Policy)) → s.next_number < 2 ^ 63 → PoliciesStand a image s es → next_number_in a image ≡ s.next_number
 next_number_is a image s es small g = let c = g.counters.next_number in omega (arith, c, small)
 
-pair : (a b : ℕ) (t : ℕ × ℕ) → a ≡ t.0 → b ≡ t.1 → ◌≡◌ {A = ℕ × ℕ} (a, b) t
-pair a b t p q = ap (λ (x : ℕ). let u : ℕ × ℕ = (x, b) in u) p ∙ ap (λ (y : ℕ). let u : ℕ × ℕ = (t.0, y) in u) q
-
 pub hthresh4_is : (a : PolicyArea) (image : List ℕ) (s : Shown) (es : List (ℕ × Policy)) → PoliciesStand a image s es → hthresh4_in a image ≡ s.hthresh4
-hthresh4_is a image s es g =
-    let c = g.counters.local4 in let d = g.counters.remote4 in pair _ _ s.hthresh4 (omega (arith, c)) (omega (arith, d))
+hthresh4_is a image s es g = (stand_tell a image s g.counters).v4
 
 pub hthresh6_is : (a : PolicyArea) (image : List ℕ) (s : Shown) (es : List (ℕ × Policy)) → PoliciesStand a image s es → hthresh6_in a image ≡ s.hthresh6
-hthresh6_is a image s es g =
-    let c = g.counters.local6 in let d = g.counters.remote6 in pair _ _ s.hthresh6 (omega (arith, c)) (omega (arith, d))
+hthresh6_is a image s es g = (stand_tell a image s g.counters).v6
 
 -- the list
 

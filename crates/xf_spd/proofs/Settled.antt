@@ -85,7 +85,7 @@ cleared_is a one two image i j k h4 h6 eo et ei ej ek =
     ∙ ap (λ (w : List ℕ). emptied (exact_of a).heads (exact_of a).count w)
     (ej ∙ (ap (λ (f : Family). emptied f.heads f.count i) eo ∙ ap (λ (w : List ℕ). emptied (others_of a).heads (others_of a).count w) ei)))
 
-same_lens : (x y : ℕ × ℕ) → ◌≡◌ {A = Option (ℕ × ℕ)} (Some x) (Some y) → x ≡ y
+pub same_lens : (x y : ℕ × ℕ) → ◌≡◌ {A = Option (ℕ × ℕ)} (Some x) (Some y) → x ≡ y
 same_lens x y e = ap (λ (o : Option (ℕ × ℕ)). unwrap_or o x) e
 
 -- the words that were set

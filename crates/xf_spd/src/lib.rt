@@ -1,4 +1,4 @@
-//! The policy database over words.
+//! The policy database over words: the list of policies in slots of memory, and each call on it.
 #![tactic(auto)]
 
 mod adding;
@@ -23,11 +23,9 @@ mod removing;
 mod setting;
 mod soft;
 mod spd;
-#[cfg(test)]
-mod tests;
 mod updating;
 mod writes;
 
 pub use faults::SpdFault;
-pub use laws::pool_laws;
+pub use laws::{pool_laws, start_laws};
 pub use spd::Spd;

@@ -1,0 +1,33 @@
+use Rattle.std.proofs.Common.{refl, sym, subst}
+use Rattle.xf_types.specs.declared.call.Call.TheVariants.{PolicyUpdate}
+use Rattle.xf_types.specs.declared.call.Reply.{Reply}
+use Rattle.xf_types.specs.PolicyRules.{policy_update}
+use Rattle.xf_types.specs.Steps.{step}
+use Rattle.xf_spd.specs.Changes.{Replaces}
+use Rattle.xf_beside.specs.Standing.{Answers}
+use Rattle.xf_beside.proofs.Kept.{StandsForSome, is_at, time_update, left_by, answered_by}
+use Rattle.xf_beside.proofs.adding.update.Goals as goal
+
+pub returns-clause-stood : goal.returns-clause-stood
+returns-clause-stood g c =
+    let a = c.args.spd.now.area in
+    let m = c.requires.stood.machine in
+    let st = c.requires.stood.for_it in
+    let at = is_at a (g.C.Cells.words c.args.c.now) c.args.now m c.requires.young st in
+    let k : StandsForSome a (g.C.Cells.words c.update-answer.new.c) c.args.now =
+    left_by (λ index. Replaces a (g.C.Cells.words c.update-answer.new.c) m.shown st.entries (g.P.Pool.gives c.args.pool.now) index c.args.spec.now (policy_update m.shown c.args.spec.now))
+    c.update-answer.result a (g.C.Cells.words c.args.c.now) (g.C.Cells.words c.update-answer.new.c) c.args.now m (PolicyUpdate c.args.spec.now) (policy_update m.shown c.args.spec.now)
+    st refl (time_update m.shown c.args.spec.now) c.update-answer.ensures.refused (c.update-answer.ensures.stands m.shown st.entries at st.stands c.requires.stood.pool)
+    (λ i x. record { entries = _; stands = x.adds.stands }) in
+    record { machine = k.machine; for_it = k.for_it; pool = c.update-answer.ensures.pool m.shown st.entries c.requires.lasts at st.stands c.requires.stood.pool }
+
+pub returns-clause-answer : goal.returns-clause-answer
+returns-clause-answer g c = λ m held st.
+    let a = c.args.spd.now.area in
+    let at = is_at a (g.C.Cells.words c.args.c.now) c.args.now m c.requires.young st in
+    subst (λ (r : Reply). Answers a (g.C.Cells.words c.update-answer.new.c) c.args.now r (step m (PolicyUpdate c.args.spec.now))) (sym c.index_reply.ensures)
+    (answered_by (λ index. Replaces a (g.C.Cells.words c.update-answer.new.c) m.shown st.entries (g.P.Pool.gives c.args.pool.now) index c.args.spec.now (policy_update m.shown c.args.spec.now))
+    c.update-answer.result a (g.C.Cells.words c.args.c.now) (g.C.Cells.words c.update-answer.new.c) c.args.now m (PolicyUpdate c.args.spec.now) (policy_update m.shown c.args.spec.now)
+    st refl (time_update m.shown c.args.spec.now) c.update-answer.ensures.refused (c.update-answer.ensures.stands m.shown st.entries at st.stands c.requires.stood.pool)
+    (λ i x. record { entries = _; stands = x.adds.stands })
+    (c.update-answer.ensures.plain m.shown st.entries held at st.stands c.requires.stood.pool))
