@@ -26,8 +26,8 @@ use Rattle.xf_image.specs.Policies.{everyone}
 use Rattle.xf_image.proofs.Parts.{misses_both, left_is}
 use Rattle.xf_index.specs.Finds.{Found}
 use Rattle.xf_index.proofs.Alls.{all_apart}
-use Rattle.xf_spd.specs.declared.entry.Entry.{Entry}
-use Rattle.xf_spd.proofs.Named.{turned}
+use Rattle.xf_listing.specs.declared.entry.Entry.{Entry}
+use Rattle.xf_listing.proofs.Named.{turned}
 
 -- no two pass
 abbrev pub Alone : (Policy → Bool) → List Policy → Type 0

@@ -8,7 +8,7 @@ use Rattle.xf_types.specs.PolicyList.{comes_after, is_same}
 use Rattle.xf_types.specs.Same.{dir_number}
 use Rattle.xf_types.specs.Steps.{empty_shown}
 use Rattle.xf_spd.specs.Changes.{IsAt}
-use Rattle.xf_spd.proofs.Settled.{same_lens}
+use Rattle.xf_listing.proofs.Settled.{same_lens}
 
 no_pairs : {A : Type 0} (R : A → A → Type 0) → AllPairs R []
 no_pairs R = λ i j d lt within. absurd (omega (arith, within))

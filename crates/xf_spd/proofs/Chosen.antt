@@ -13,13 +13,13 @@ use Rattle.xf_image.specs.declared.area.PolicyArea.{PolicyArea}
 use Rattle.xf_image.specs.Entries.{new_policy, with_listed}
 use Rattle.xf_image.specs.Policies.{PoliciesStand}
 use Rattle.xf_image.specs.Readings.{next_index_in}
-use Rattle.xf_spd.specs.declared.entry.Choice.{Choice}
-use Rattle.xf_spd.specs.Header.{count_in}
-use Rattle.xf_spd.specs.Walks.{is_taken_in, free_in}
-use Rattle.xf_spd.specs.Calls.{choice_in}
-use Rattle.xf_spd.proofs.Free.{free_same}
-use Rattle.xf_spd.proofs.Named.{taken_is}
-use Rattle.xf_spd.proofs.Reading.{count_is, next_index_is}
+use Rattle.xf_listing.specs.declared.entry.Choice.{Choice}
+use Rattle.xf_listing.specs.Header.{count_in}
+use Rattle.xf_listing.specs.Walks.{is_taken_in, free_in}
+use Rattle.xf_listing.specs.Calls.{choice_in}
+use Rattle.xf_listing.proofs.Free.{free_same}
+use Rattle.xf_listing.proofs.Named.{taken_is}
+use Rattle.xf_listing.proofs.Reading.{count_is, next_index_is}
 
 pub free_is : (a : PolicyArea) (image : List ℕ) (s : Shown) (es : List (ℕ × Policy)) (spec : PolicySpec) → IsInRoom s → IsInRange s → PoliciesStand a image s es
     → free_in a image (dir_number spec.dir) (next_index_in a image) (count_in a image) ≡ free_number s spec.dir

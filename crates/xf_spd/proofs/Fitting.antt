@@ -17,9 +17,9 @@ use Rattle.xf_image.specs.Policies.{PoliciesStand}
 use Rattle.xf_image.specs.Readings.{listed_in}
 use Rattle.xf_image.proofs.Empties.{zeros_stand}
 use Rattle.xf_image.proofs.Listed.{listed_is}
-use Rattle.xf_spd.specs.Calls.{slot_named}
+use Rattle.xf_listing.specs.Calls.{slot_named}
 use Rattle.xf_spd.specs.Slots.{is_in, PoolFits, Where}
-use Rattle.xf_spd.proofs.Named.{slot_named_is}
+use Rattle.xf_listing.proofs.Named.{slot_named_is}
 use Rattle.xf_spd.proofs.Pools.{in_between}
 
 pub entry_back : (a : PolicyArea) (image : List ℕ) (s : Shown) (es : List (ℕ × Policy)) (all out : ℕ) (gives takes : ℕ → Type 0) (slot : ℕ) (p : Policy) → PoliciesStand a image s es

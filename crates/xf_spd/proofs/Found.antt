@@ -21,9 +21,9 @@ use Rattle.xf_exact.specs.Hits.{hit_of, first_of, policy_hit}
 use Rattle.xf_exact.proofs.HitLaws.{hit_policy as policy_of_hit}
 use Rattle.xf_exact.proofs.PartLaws.{parts_first, stand_tell}
 use Rattle.xf_spd.specs.Firsts.{hit_policy, first_in, first_policy_in}
-use Rattle.xf_spd.specs.Walks.{slot_with}
+use Rattle.xf_listing.specs.Walks.{slot_with}
 use Rattle.xf_spd.proofs.Alone.{Alone, all_fail, fails_by, index_alone}
-use Rattle.xf_spd.proofs.Named.{slot_with_is}
+use Rattle.xf_listing.proofs.Named.{slot_with_is}
 
 -- ---- the first that applies
 

@@ -19,10 +19,10 @@ use Rattle.xf_image.specs.declared.area.PolicyArea.{PolicyArea}
 use Rattle.xf_image.specs.Entries.{new_policy, entries_with, with_listed}
 use Rattle.xf_image.specs.Policies.{PoliciesStand}
 use Rattle.xf_image.specs.Readings.{listed_in}
-use Rattle.xf_spd.specs.declared.entry.Choice.{Choice}
+use Rattle.xf_listing.specs.declared.entry.Choice.{Choice}
 use Rattle.xf_spd.specs.declared.faults.SpdFault.{SpdFault}
 use Rattle.xf_spd.specs.declared.faults.SpdFault.TheVariants.{Invalid, Exists, NoEntry, Full}
-use Rattle.xf_spd.specs.Calls.{choice_in}
+use Rattle.xf_listing.specs.Calls.{choice_in}
 use Rattle.xf_spd.specs.Changes.{Adds}
 use Rattle.xf_spd.specs.Replies.{index_reply, FaultIs, ReplyIs, IsRoomFault, IsAddFault, IsUpdateFault}
 use Rattle.xf_spd.proofs.Chosen.{listed_as, choice_is}

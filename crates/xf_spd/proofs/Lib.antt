@@ -1,15 +1,9 @@
-pub mod Free
-pub mod Reading
-pub mod Named
 pub mod Alone
 pub mod Chosen
-pub mod Changing
-pub mod Loading
 pub mod Pools
 pub mod Inserted
 pub mod Removed
 pub mod Updated
 pub mod Found
-pub mod Settled
 pub mod Fitting
 pub mod Begins

@@ -20,14 +20,14 @@ use Rattle.xf_image.specs.Layout.{order_of, record_at}
 use Rattle.xf_image.specs.Policies.{everyone, PoliciesStand}
 use Rattle.xf_image.specs.Readings.{next_index_in}
 use Rattle.xf_image.proofs.Parts.{left_is, within_slot}
-use Rattle.xf_spd.specs.declared.entry.Entry.{Entry}
-use Rattle.xf_spd.specs.Calls.{found_with, found_at, found_policy, named_in, named_reply}
+use Rattle.xf_listing.specs.declared.entry.Entry.{Entry}
+use Rattle.xf_listing.specs.Calls.{found_with, found_at, found_policy, named_in}
 use Rattle.xf_spd.specs.Changes.{Adds}
-use Rattle.xf_spd.specs.Replies.{policy_reply}
+use Rattle.xf_spd.specs.Replies.{named_reply, policy_reply}
 use Rattle.xf_spd.specs.Slots.{Where}
 use Rattle.xf_spd.proofs.Alone.{Alone, left_gone, records_without, gone_is, parts_miss}
-use Rattle.xf_spd.proofs.Named.{named_found}
-use Rattle.xf_spd.proofs.Reading.{next_index_is, policy_is}
+use Rattle.xf_listing.proofs.Named.{named_found}
+use Rattle.xf_listing.proofs.Reading.{next_index_is, policy_is}
 
 -- ---- what is left
 

@@ -17,14 +17,14 @@ use Rattle.xf_image.specs.declared.area.PolicyArea.{PolicyArea}
 use Rattle.xf_image.specs.Entries.{entries_with, entries_without}
 use Rattle.xf_image.specs.Policies.{PoliciesStand}
 use Rattle.xf_image.specs.Readings.{listed_in}
-use Rattle.xf_spd.specs.declared.entry.Entry.{Entry}
+use Rattle.xf_listing.specs.declared.entry.Entry.{Entry}
 use Rattle.xf_spd.specs.declared.faults.SpdFault.{SpdFault}
-use Rattle.xf_spd.specs.Calls.{same_in, slot_under}
+use Rattle.xf_listing.specs.Calls.{same_in, slot_under}
 use Rattle.xf_spd.specs.Changes.{Adds, AddsGiven, Replaces}
 use Rattle.xf_spd.specs.Slots.{PoolFits}
 use Rattle.xf_spd.proofs.Alone.{entry_of, left_gone, kept_all, same_alone}
 use Rattle.xf_spd.proofs.Inserted.{with_splits}
-use Rattle.xf_spd.proofs.Named.{same_slot_is}
+use Rattle.xf_listing.proofs.Named.{same_slot_is}
 use Rattle.xf_spd.proofs.Pools.{pool_moved}
 use Rattle.xf_image.proofs.Listed.{listed_is}
 use Rattle.xf_spd.proofs.Removed.{entry_cut, found_slot}

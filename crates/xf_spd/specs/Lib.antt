@@ -1,6 +1,3 @@
-pub mod Header
-pub mod Walks
-pub mod Calls
 pub mod Replies
 pub mod Slots
 pub mod Changes

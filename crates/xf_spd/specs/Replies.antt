@@ -1,10 +1,11 @@
 -- What a result is as a reply of the machine.
-use Rattle.std.specs.Prelude.{◌≡◌, ⊤, ℕ, ◌+◌, Ok, Err, length}
+use Rattle.std.specs.Prelude.{◌≡◌, ⊤, ℕ, ◌+◌, Option, None, Some, Ok, Err, length}
 use Rattle.std.specs.declared.result.Result.{Result}
 use Rattle.xf_types.specs.declared.call.Reply.{Reply}
 use Rattle.xf_types.specs.declared.call.Reply.TheVariants as reply
 use Rattle.xf_types.specs.declared.policy.Policy.{Policy}
 use Rattle.xf_types.specs.Machine.{Shown}
+use Rattle.xf_listing.specs.declared.entry.Entry.{Entry}
 use Rattle.xf_spd.specs.declared.faults.SpdFault.{SpdFault}
 use Rattle.xf_spd.specs.declared.faults.SpdFault.TheVariants.{Invalid, Exists, NoEntry, Full}
 
@@ -24,6 +25,11 @@ index_reply (Err fault) = fault_reply fault
 abbrev pub policy_reply : Result Policy SpdFault → Reply
 policy_reply (Ok p) = reply.PolicyShown p
 policy_reply (Err fault) = fault_reply fault
+
+-- the answer to who asks for it
+abbrev pub named_reply : Option Entry → Result Policy SpdFault
+named_reply None = Err NoEntry
+named_reply (Some f) = Ok f.policy
 
 -- All slots are out or wait, of which there are so many, and a machine with as much less room is full.
 pub record IsFull (s : Shown) (rule : Shown → Reply) (held live waiting : ℕ) : Type 0 where

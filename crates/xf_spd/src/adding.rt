@@ -17,6 +17,7 @@ use crate::faults::SpdFault;
 use crate::pool::taken;
 use crate::spd::Spd;
 use xf_cells::{Cells, Pool};
+use xf_listing::Listing;
 use xf_types::PolicySpec;
 
 impl Spd {
@@ -30,8 +31,8 @@ impl Spd {
         ensures frame { Frame self.now.area.base (end_of self.now.area) (C.words c.old) (C.words c.new) }
         ensures adds { (s : Shown) (es : List (ℕ × Policy)) → IsAt s now → PoliciesStand self.now.area (C.words c.old) s es → Misses slot (slots_in es) → Adds self.now.area (C.words c.new) s es slot result spec.now (added_with_index s spec.now) }
     {
-        let choice = self.chosen(c, spec);
-        self.list(c, slot, spec, choice.index, choice.word, now);
+        let choice = Listing { area: self.area }.chosen(c, spec);
+        Listing { area: self.area }.list(c, slot, spec, choice.index, choice.word, now);
         choice.index
     }
 

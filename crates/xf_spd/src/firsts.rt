@@ -13,6 +13,7 @@ ghost use Rattle.xf_spd.specs.Firsts.{hit_policy, first_in, first_policy_in};
 use crate::spd::Spd;
 use xf_cells::Load;
 use xf_exact::{Exact, Hit, Others, better};
+use xf_listing::Listing;
 use xf_types::{Flow, Policy, Ptype};
 
 impl Spd {
@@ -29,7 +30,7 @@ impl Spd {
         let hit = hit?;
         if hit.slot < self.area.slots {
             let size = l.size();
-            self.policy_in(l, hit.slot, size)
+            Listing { area: self.area }.policy_in(l, hit.slot, size)
         } else {
             None
         }

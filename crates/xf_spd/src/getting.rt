@@ -6,14 +6,13 @@ ghost use Rattle.xf_types.specs.PolicyRules.{policy_get};
 ghost use Rattle.xf_cells.specs.Words.{Narrows};
 ghost use Rattle.xf_image.specs.Layout.{Fits};
 ghost use Rattle.xf_image.specs.Policies.{PoliciesStand};
-ghost use Rattle.xf_spd.specs.Calls.{named_reply};
-ghost use Rattle.xf_spd.specs.Replies.{IsKeyFault, policy_reply};
+ghost use Rattle.xf_spd.specs.Replies.{IsKeyFault, named_reply, policy_reply};
 
-use crate::entry::Entry;
 use crate::faults::SpdFault;
-use crate::naming::is_bad_key;
+use crate::keys::is_bad_key;
 use crate::spd::Spd;
 use xf_cells::Load;
+use xf_listing::{Entry, Listing};
 use xf_types::{Policy, PolicyKey};
 
 /// The policy of what is found.
@@ -42,7 +41,7 @@ impl Spd {
         if is_bad_key(key) {
             return Err(SpdFault::Invalid);
         }
-        let entry = self.named(l, key);
+        let entry = Listing { area: self.area }.named(l, key);
         told(entry)
     }
 }

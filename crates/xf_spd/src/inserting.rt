@@ -12,9 +12,10 @@ ghost use Rattle.xf_spd.specs.Replies.{IsAddFault, ReplyIs, index_reply};
 ghost use Rattle.xf_spd.specs.Slots.{PoolFits};
 
 use crate::faults::SpdFault;
-use crate::naming::is_bad_index;
+use crate::keys::is_bad_index;
 use crate::spd::Spd;
 use xf_cells::{Cells, Pool};
+use xf_listing::Listing;
 use xf_types::PolicySpec;
 
 impl Spd {
@@ -45,7 +46,7 @@ impl Spd {
         if is_bad_index(spec) {
             return Err(SpdFault::Invalid);
         }
-        match self.same_here(c, spec) {
+        match (Listing { area: self.area }).same_here(c, spec) {
             Some(entry) => Err(SpdFault::Exists {
                 index: entry.policy.index,
             }),

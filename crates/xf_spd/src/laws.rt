@@ -11,7 +11,7 @@ ghost use Rattle.xf_image.specs.Policies.{PoliciesStand};
 ghost use Rattle.xf_image.specs.Readings.{listed_in};
 ghost use Rattle.xf_types.specs.Steps.{empty_shown};
 ghost use Rattle.xf_spd.specs.Changes.{IsAt};
-ghost use Rattle.xf_spd.specs.Calls.{slot_named};
+ghost use Rattle.xf_listing.specs.Calls.{slot_named};
 ghost use Rattle.xf_spd.specs.Slots.{PoolFits, Where};
 
 use crate::spd::Spd;

@@ -2,21 +2,12 @@
 #![tactic(auto)]
 
 mod adding;
-mod choosing;
-mod entry;
 mod faults;
 mod firsts;
 mod getting;
-mod header;
-mod index;
 mod inserting;
+mod keys;
 mod laws;
-mod layout;
-mod listing;
-mod naming;
-mod nth;
-mod order;
-mod places;
 mod pool;
 mod reads;
 mod removing;
@@ -24,7 +15,6 @@ mod setting;
 mod soft;
 mod spd;
 mod updating;
-mod writes;
 
 pub use faults::SpdFault;
 pub use laws::{pool_laws, start_laws};

@@ -13,6 +13,7 @@ ghost use Rattle.xf_chain.specs.Lists.{first_of};
 
 use crate::spd::Spd;
 use xf_cells::Load;
+use xf_listing::Listing;
 use xf_types::{Policy, Thresholds};
 
 impl Spd {
@@ -26,7 +27,7 @@ impl Spd {
         ensures loads { L.loads l.new ≤ L.loads l.old + 1 }
         ensures answer { (image : List ℕ) (s : Shown) (es : List (ℕ × Policy)) → L.agrees l.new image → IsInRoom s → PoliciesStand self.now.area image s es → result ≡ length s.policies }
     {
-        self.count_word(l)
+        Listing { area: self.area }.count_word(l)
     }
 
     /// The index counter.
@@ -39,7 +40,7 @@ impl Spd {
         ensures loads { L.loads l.new ≤ L.loads l.old + 1 }
         ensures answer { (image : List ℕ) (s : Shown) (es : List (ℕ × Policy)) → L.agrees l.new image → IsInRange s → PoliciesStand self.now.area image s es → result ≡ s.next_index }
     {
-        self.index_word(l)
+        Listing { area: self.area }.index_word(l)
     }
 
     /// The number of the next policy.
@@ -52,7 +53,7 @@ impl Spd {
         ensures loads { L.loads l.new ≤ L.loads l.old + 1 }
         ensures answer { (image : List ℕ) (s : Shown) (es : List (ℕ × Policy)) → L.agrees l.new image → s.next_number < 2 ^ 63 → PoliciesStand self.now.area image s es → result ≡ s.next_number }
     {
-        self.number_word(l)
+        Listing { area: self.area }.number_word(l)
     }
 
     /// The thresholds of both families.
@@ -66,7 +67,7 @@ impl Spd {
         ensures v4 { (image : List ℕ) (s : Shown) (es : List (ℕ × Policy)) → L.agrees l.new image → PoliciesStand self.now.area image s es → result.v4 ≡ Some s.hthresh4 }
         ensures v6 { (image : List ℕ) (s : Shown) (es : List (ℕ × Policy)) → L.agrees l.new image → PoliciesStand self.now.area image s es → result.v6 ≡ Some s.hthresh6 }
     {
-        self.threshold_words(l)
+        Listing { area: self.area }.threshold_words(l)
     }
 
     /// The policy at a place of the list.
@@ -79,7 +80,7 @@ impl Spd {
         ensures loads { L.loads l.new ≤ L.loads l.old + 103 + self.now.area.slots }
         ensures answer { (image : List ℕ) (s : Shown) (es : List (ℕ × Policy)) → L.agrees l.new image → PoliciesStand self.now.area image s es → result ≡ slice_get s.policies place }
     {
-        self.nth_listed(l, place)
+        Listing { area: self.area }.nth_listed(l, place)
     }
 
     /// The slot of the first policy.
@@ -93,7 +94,7 @@ impl Spd {
         ensures below { Below self.now.area.slots result }
         ensures answer { (image : List ℕ) (s : Shown) (es : List (ℕ × Policy)) → L.agrees l.new image → PoliciesStand self.now.area image s es → result ≡ first_of (slots_in es) }
     {
-        self.after(l, None)
+        Listing { area: self.area }.after(l, None)
     }
 
     /// The slot of the policy after a slot's. A loop that removes policies asks for it before it removes one.
@@ -108,7 +109,7 @@ impl Spd {
         ensures below { Below self.now.area.slots result }
         ensures answer { (image : List ℕ) (s : Shown) (front back : List (ℕ × Policy)) (p : Policy) → L.agrees l.new image → PoliciesStand self.now.area image s (front ++ ((slot, p) ∷ back)) → result ≡ first_of (slots_in back) }
     {
-        self.after(l, Some(slot))
+        Listing { area: self.area }.after(l, Some(slot))
     }
 
     /// The policy in a slot.
@@ -123,6 +124,6 @@ impl Spd {
         ensures answer { (image : List ℕ) (s : Shown) (front back : List (ℕ × Policy)) (p : Policy) → L.agrees l.new image → PoliciesStand self.now.area image s (front ++ ((slot, p) ∷ back)) → result ≡ Some p }
     {
         let size = l.size();
-        self.policy_in(l, slot, size)
+        Listing { area: self.area }.policy_in(l, slot, size)
     }
 }

@@ -12,15 +12,15 @@ ghost use Rattle.xf_image.specs.Frames.{Frame};
 ghost use Rattle.xf_image.specs.Layout.{Fits, end_of};
 ghost use Rattle.xf_image.specs.Policies.{PoliciesStand};
 ghost use Rattle.xf_image.specs.Readings.{listed_in};
-ghost use Rattle.xf_spd.specs.Calls.{slot_named};
+ghost use Rattle.xf_listing.specs.Calls.{slot_named};
 ghost use Rattle.xf_spd.specs.Replies.{IsKeyFault, index_reply};
 ghost use Rattle.xf_spd.specs.Slots.{PoolFits, Where};
 
-use crate::entry::Entry;
 use crate::faults::SpdFault;
-use crate::naming::is_bad_key;
+use crate::keys::is_bad_key;
 use crate::spd::Spd;
 use xf_cells::{Cells, Pool};
+use xf_listing::{Entry, Listing};
 use xf_types::PolicyKey;
 
 impl Spd {
@@ -40,7 +40,7 @@ impl Spd {
         ensures removes { (s : Shown) (es : List (ℕ × Policy)) → IsEntry es entry.now.slot entry.now.policy → PoliciesStand self.now.area (C.words c.old) s es → PoliciesStand self.now.area (C.words c.new) (with_policies s (records_in (slot_left entry.now.slot es))) (slot_left entry.now.slot es) }
         ensures pool { (s : Shown) (es : List (ℕ × Policy)) → P.lasts pool.old ≡ true → IsEntry es entry.now.slot entry.now.policy → PoliciesStand self.now.area (C.words c.old) s es → PoolFits (P.capacity pool.old) (P.taken pool.old) (P.gives pool.old) (P.takes pool.old) self.now.area.slots (listed_in self.now.area (C.words c.old)) → PoolFits (P.capacity pool.new) (P.taken pool.new) (P.gives pool.new) (P.takes pool.new) self.now.area.slots (listed_in self.now.area (C.words c.new)) }
     {
-        self.delist(c, entry);
+        Listing { area: self.area }.delist(c, entry);
         pool.give(entry.slot);
     }
 
@@ -71,7 +71,7 @@ impl Spd {
         if is_bad_key(key) {
             return Err(SpdFault::Invalid);
         }
-        match self.named_here(c, key) {
+        match (Listing { area: self.area }).named_here(c, key) {
             None => Err(SpdFault::NoEntry),
             Some(entry) => {
                 self.remove_entry(c, pool, &entry);
@@ -96,7 +96,7 @@ impl Spd {
         ensures stands { (s : Shown) (es : List (ℕ × Policy)) (p : Policy) → IsEntry es slot p → PoliciesStand self.now.area (C.words c.old) s es → PoliciesStand self.now.area (C.words c.new) (with_policies s (records_in (slot_left slot es))) (slot_left slot es) }
         ensures pool { (s : Shown) (es : List (ℕ × Policy)) (p : Policy) → P.lasts pool.old ≡ true → IsEntry es slot p → PoliciesStand self.now.area (C.words c.old) s es → PoolFits (P.capacity pool.old) (P.taken pool.old) (P.gives pool.old) (P.takes pool.old) self.now.area.slots (listed_in self.now.area (C.words c.old)) → PoolFits (P.capacity pool.new) (P.taken pool.new) (P.gives pool.new) (P.takes pool.new) self.now.area.slots (listed_in self.now.area (C.words c.new)) }
     {
-        if let Some(entry) = self.found_here(c, slot) {
+        if let Some(entry) = (Listing { area: self.area }).found_here(c, slot) {
             self.remove_entry(c, pool, &entry);
         }
     }

@@ -15,11 +15,11 @@ ghost use Rattle.xf_spd.specs.Changes.{IsAt, Adds, Replaces};
 ghost use Rattle.xf_spd.specs.Replies.{IsUpdateFault, ReplyIs, index_reply};
 ghost use Rattle.xf_spd.specs.Slots.{PoolFits};
 
-use crate::entry::Entry;
 use crate::faults::SpdFault;
-use crate::naming::is_bad_index;
+use crate::keys::is_bad_index;
 use crate::spd::Spd;
 use xf_cells::{Cells, Load, Pool};
+use xf_listing::{Entry, Listing};
 use xf_types::PolicySpec;
 
 impl Spd {
@@ -32,7 +32,7 @@ impl Spd {
         ensures among { Narrows (L.agrees l.old) (L.agrees l.new) }
         ensures answer { (image : List ℕ) → L.agrees l.new image → result + 1 ≡ next_index_in self.now.area image }
     {
-        self.index_word(l) - 1
+        Listing { area: self.area }.index_word(l) - 1
     }
 
     /// Lists a policy in the slot of the same one, with its index.
@@ -45,9 +45,9 @@ impl Spd {
         ensures frame { Frame self.now.area.base (end_of self.now.area) (C.words c.old) (C.words c.new) }
         ensures replaces { (s : Shown) (es : List (ℕ × Policy)) → IsAt s now → PoliciesStand self.now.area (C.words c.old) s es → Found (λ p. is_same p.spec spec.now) entry.now.slot entry.now.policy es → Adds self.now.area (C.words c.new) s (entries_without (λ p. is_same p.spec spec.now) es) entry.now.slot result spec.now (policy_replaced_or_added s spec.now (Some entry.now.policy)) }
     {
-        self.delist(c, entry);
+        Listing { area: self.area }.delist(c, entry);
         let word = self.kept_word(c);
-        self.list(c, entry.slot, spec, entry.policy.index, word, now);
+        Listing { area: self.area }.list(c, entry.slot, spec, entry.policy.index, word, now);
         entry.policy.index
     }
 
@@ -79,7 +79,7 @@ impl Spd {
         if is_bad_index(spec) {
             return Err(SpdFault::Invalid);
         }
-        match self.same_here(c, spec) {
+        match (Listing { area: self.area }).same_here(c, spec) {
             Some(entry) => Ok(self.replace(c, &entry, spec, now)),
             None => self.add_new(c, pool, spec, now),
         }

@@ -4,7 +4,7 @@ use Rattle.xf_image.specs.Layout.{end_of}
 use Rattle.xf_image.specs.Policies.{PoliciesStand}
 use Rattle.xf_spd.proofs.Alone.{in_order}
 use Rattle.xf_spd.proofs.Inserted.{adds_is}
-use Rattle.xf_spd.proofs.Loading.{words_kept, answer_kept}
+use Rattle.xf_listing.proofs.Loading.{words_kept, answer_kept}
 use Rattle.xf_spd.proofs.spd.Spd.add.Given as given
 use Rattle.xf_spd.proofs.spd.Spd.add.Goals as goal
 

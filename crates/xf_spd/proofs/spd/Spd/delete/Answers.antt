@@ -8,11 +8,11 @@ use Rattle.xf_index.specs.Finds.{Found}
 use Rattle.xf_image.specs.Entries.{entries_without}
 use Rattle.xf_image.specs.Policies.{PoliciesStand}
 use Rattle.xf_image.specs.Readings.{listed_in}
-use Rattle.xf_spd.specs.declared.entry.Entry.{Entry}
-use Rattle.xf_spd.specs.Calls.{found_policy}
+use Rattle.xf_listing.specs.declared.entry.Entry.{Entry}
+use Rattle.xf_listing.specs.Calls.{found_policy}
 use Rattle.xf_spd.specs.Slots.{PoolFits}
 use Rattle.xf_spd.proofs.Alone.{entry_of, key_alone}
-use Rattle.xf_spd.proofs.Named.{named_found, named_between}
+use Rattle.xf_listing.proofs.Named.{named_found, named_between}
 use Rattle.xf_spd.proofs.Removed.{delete_rule, gone_stands}
 use Rattle.xf_spd.proofs.spd.Spd.delete.Given as given
 use Rattle.xf_spd.proofs.spd.Spd.delete.Goals as goal

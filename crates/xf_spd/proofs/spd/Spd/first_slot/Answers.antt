@@ -1,5 +1,5 @@
 use Rattle.std.proofs.Common.{◌∙◌}
-use Rattle.xf_spd.proofs.Reading.{first_slot_is}
+use Rattle.xf_listing.proofs.Reading.{first_slot_is}
 use Rattle.xf_spd.proofs.spd.Spd.first_slot.Goals as goal
 
 pub returns-clause-answer : goal.returns-clause-answer

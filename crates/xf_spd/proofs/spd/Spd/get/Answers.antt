@@ -1,7 +1,6 @@
 use Rattle.std.proofs.Common.{Option, ap, sym, ◌∙◌}
-use Rattle.xf_spd.specs.declared.entry.Entry.{Entry}
-use Rattle.xf_spd.specs.Calls.{named_reply}
-use Rattle.xf_spd.specs.Replies.{policy_reply}
+use Rattle.xf_listing.specs.declared.entry.Entry.{Entry}
+use Rattle.xf_spd.specs.Replies.{named_reply, policy_reply}
 use Rattle.xf_spd.proofs.Removed.{get_is}
 use Rattle.xf_spd.proofs.spd.Spd.get.Goals as goal
 

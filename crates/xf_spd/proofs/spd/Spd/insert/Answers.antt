@@ -7,13 +7,13 @@ use Rattle.xf_types.specs.PolicyRules.{policy_add, policy_added_if_room}
 use Rattle.xf_image.specs.Policies.{PoliciesStand}
 use Rattle.xf_image.specs.Readings.{listed_in}
 use Rattle.xf_spd.specs.Slots.{PoolFits}
-use Rattle.xf_spd.specs.declared.entry.Entry.{Entry}
-use Rattle.xf_spd.specs.Calls.{found_policy}
+use Rattle.xf_listing.specs.declared.entry.Entry.{Entry}
+use Rattle.xf_listing.specs.Calls.{found_policy}
 use Rattle.xf_spd.specs.Changes.{AddsGiven}
 use Rattle.std.proofs.lemmas.Result.{IfErr-weaker}
 use Rattle.xf_spd.specs.Replies.{IsRoomFault, IsAddFault}
 use Rattle.xf_spd.proofs.Inserted.{add_exists, add_rule, reply_as, plain_reply, room_add}
-use Rattle.xf_spd.proofs.Named.{same_found}
+use Rattle.xf_listing.proofs.Named.{same_found}
 use Rattle.xf_spd.proofs.spd.Spd.insert.Given as given
 use Rattle.xf_spd.proofs.spd.Spd.insert.Goals as goal
 

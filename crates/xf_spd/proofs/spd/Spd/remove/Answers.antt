@@ -5,10 +5,10 @@ use Rattle.xf_index.specs.Indexes.{records_in}
 use Rattle.xf_image.specs.Entries.{IsEntry, slot_left, with_policies}
 use Rattle.xf_image.specs.Policies.{PoliciesStand}
 use Rattle.xf_image.specs.Readings.{listed_in}
-use Rattle.xf_spd.specs.declared.entry.Entry.{Entry}
+use Rattle.xf_listing.specs.declared.entry.Entry.{Entry}
 use Rattle.xf_image.specs.declared.area.PolicyArea.{PolicyArea}
 use Rattle.xf_image.specs.Layout.{record_at}
-use Rattle.xf_spd.specs.Calls.{found_with}
+use Rattle.xf_listing.specs.Calls.{found_with}
 use Rattle.xf_spd.specs.Slots.{PoolFits}
 use Rattle.xf_spd.proofs.Removed.{found_there}
 use Rattle.xf_spd.proofs.spd.Spd.remove.Given as given

@@ -7,7 +7,7 @@ use Rattle.xf_image.specs.Entries.{entries_without, with_policies}
 use Rattle.xf_image.specs.Policies.{PoliciesStand}
 use Rattle.xf_spd.specs.Changes.{IsAt}
 use Rattle.xf_spd.proofs.Alone.{entry_of, same_alone, shorter_order}
-use Rattle.xf_spd.proofs.Loading.{words_kept, answer_kept}
+use Rattle.xf_listing.proofs.Loading.{words_kept, answer_kept}
 use Rattle.xf_spd.proofs.Removed.{gone_stands, gone_misses, kept_index, replaced_is}
 use Rattle.xf_spd.proofs.spd.Spd.replace.Given as given
 use Rattle.xf_spd.proofs.spd.Spd.replace.Goals as goal

@@ -1,7 +1,7 @@
 use Rattle.std.proofs.Common.{◌≡◌, ℕ, List, ap, ◌∙◌, unwrap_or}
 use Rattle.xf_image.specs.Readings.{hthresh6_in}
-use Rattle.xf_spd.proofs.Loading.{words_kept, answer_kept}
-use Rattle.xf_spd.proofs.Settled.{set_stands, set_frames}
+use Rattle.xf_listing.proofs.Loading.{words_kept, answer_kept}
+use Rattle.xf_listing.proofs.Settled.{set_stands, set_frames}
 use Rattle.xf_spd.proofs.spd.Spd.set.Given as given
 use Rattle.xf_spd.proofs.spd.Spd.set.Goals as goal
 

@@ -1,5 +1,5 @@
 use Rattle.std.proofs.Common.{ℕ, Some, ap, ◌∙◌}
-use Rattle.xf_spd.proofs.Reading.{hthresh4_is, hthresh6_is}
+use Rattle.xf_listing.proofs.Reading.{hthresh4_is, hthresh6_is}
 use Rattle.xf_spd.proofs.spd.Spd.thresholds.Goals as goal
 
 pub returns-clause-v4 : goal.returns-clause-v4

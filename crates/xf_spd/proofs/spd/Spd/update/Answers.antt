@@ -10,13 +10,13 @@ use Rattle.xf_image.specs.Entries.{new_policy, entries_without}
 use Rattle.xf_image.specs.Policies.{PoliciesStand}
 use Rattle.xf_image.specs.Readings.{listed_in}
 use Rattle.xf_spd.specs.Slots.{PoolFits}
-use Rattle.xf_spd.specs.declared.entry.Entry.{Entry}
-use Rattle.xf_spd.specs.Calls.{found_policy}
+use Rattle.xf_listing.specs.declared.entry.Entry.{Entry}
+use Rattle.xf_listing.specs.Calls.{found_policy}
 use Rattle.xf_spd.specs.Changes.{IsAt, Adds, AddsGiven}
 use Rattle.std.proofs.lemmas.Result.{IfErr-weaker}
 use Rattle.xf_spd.specs.Replies.{IsRoomFault, IsUpdateFault}
 use Rattle.xf_spd.proofs.Inserted.{reply_as, plain_reply, room_update}
-use Rattle.xf_spd.proofs.Named.{same_found, same_between}
+use Rattle.xf_listing.proofs.Named.{same_found, same_between}
 use Rattle.xf_spd.proofs.Updated.{update_rule, new_replaces, own_replaces, own_pool}
 use Rattle.xf_spd.proofs.spd.Spd.update.Given as given
 use Rattle.xf_spd.proofs.spd.Spd.update.Goals as goal

@@ -1,0 +1,6 @@
+pub mod Free
+pub mod Reading
+pub mod Named
+pub mod Changing
+pub mod Loading
+pub mod Settled

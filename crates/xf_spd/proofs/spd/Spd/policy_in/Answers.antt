@@ -1,6 +1,0 @@
-use Rattle.std.proofs.Common.{ℕ, ap, ◌∙◌}
-use Rattle.xf_records.specs.Policies.{policy_at}
-use Rattle.xf_spd.proofs.spd.Spd.policy_in.Goals as goal
-
-pub returns-clause-answer : goal.returns-clause-answer
-returns-clause-answer g c = λ image h. c.get_policy.ensures.answer image h ∙ ap (λ (at : ℕ). policy_at image at) c.record.ensures.is
