@@ -1,0 +1,16 @@
+pub mod Keys
+pub mod Nodes
+pub mod Walks
+pub mod Spares
+pub mod Insertions
+pub mod Removals
+pub mod Trees
+pub mod Slots
+pub mod Puts
+pub mod Takes
+pub mod Pools
+pub mod Promises
+pub mod Lookups
+pub mod Empty
+pub mod Forests
+pub mod Laws
