@@ -8,7 +8,8 @@ ghost use Rattle.xf_image.specs.Layout.{Fits};
 ghost use Rattle.xf_image.specs.Policies.{PoliciesStand};
 ghost use Rattle.xf_exact.specs.Hits as hits;
 ghost use Rattle.xf_exact.specs.Parts.{exact_first, other_first};
-ghost use Rattle.xf_spd.specs.Firsts.{hit_policy, first_in, first_policy_in};
+ghost use Rattle.xf_types.specs.declared.network.Ptype.TheVariants.{Sub, Main};
+ghost use Rattle.xf_spd.specs.Firsts.{hit_policy, first_in, first_policy_in, turns_of};
 
 use crate::spd::Spd;
 use xf_cells::Load;
@@ -44,6 +45,7 @@ impl Spd {
         ensures rest { L.rest l.new ≡ L.rest l.old }
         ensures among { Narrows (L.agrees l.old) (L.agrees l.new) }
         ensures loads { L.loads l.new ≤ L.loads l.old + 10 + 32 * self.now.area.slots }
+        ensures few { (image : List ℕ) (s : Shown) (es : List (ℕ × Policy)) → L.agrees l.new image → PoliciesStand self.now.area image s es → L.loads l.new ≤ L.loads l.old + 10 + 16 * turns_of s ptype flow.now es }
         ensures answer { (image : List ℕ) → L.agrees l.new image → result ≡ hits.better (exact_first self.now.area image ptype flow.now) (other_first self.now.area image ptype flow.now) }
     {
         let one = Exact { area: self.area }.first(l, flow, ptype);
@@ -59,6 +61,7 @@ impl Spd {
         ensures rest { L.rest l.new ≡ L.rest l.old }
         ensures among { Narrows (L.agrees l.old) (L.agrees l.new) }
         ensures loads { L.loads l.new ≤ L.loads l.old + 111 + 32 * self.now.area.slots }
+        ensures few { (image : List ℕ) (s : Shown) (es : List (ℕ × Policy)) → L.agrees l.new image → PoliciesStand self.now.area image s es → L.loads l.new ≤ L.loads l.old + 111 + 16 * turns_of s ptype flow.now es }
         ensures answer { (image : List ℕ) → L.agrees l.new image → result ≡ first_in self.now.area image ptype flow.now }
     {
         let hit = self.first_hit(l, flow, ptype);
@@ -72,6 +75,7 @@ impl Spd {
         ensures rest { L.rest l.new ≡ L.rest l.old }
         ensures among { Narrows (L.agrees l.old) (L.agrees l.new) }
         ensures loads { L.loads l.new ≤ L.loads l.old + 222 + 64 * self.now.area.slots }
+        ensures few { (image : List ℕ) (s : Shown) (es : List (ℕ × Policy)) → L.agrees l.new image → PoliciesStand self.now.area image s es → L.loads l.new ≤ L.loads l.old + 222 + 16 * (turns_of s Sub flow.now es + turns_of s Main flow.now es) }
         ensures answer { (image : List ℕ) → L.agrees l.new image → result ≡ first_policy_in self.now.area image flow.now }
     {
         match self.first_of(l, flow, Ptype::Sub) {
@@ -88,6 +92,7 @@ impl Spd {
         ensures rest { L.rest l.new ≡ L.rest l.old }
         ensures among { Narrows (L.agrees l.old) (L.agrees l.new) }
         ensures loads { L.loads l.new ≤ L.loads l.old + 222 + 64 * self.now.area.slots }
+        ensures few { (image : List ℕ) (s : Shown) (es : List (ℕ × Policy)) → L.agrees l.new image → PoliciesStand self.now.area image s es → L.loads l.new ≤ L.loads l.old + 222 + 16 * (turns_of s Sub flow.now es + turns_of s Main flow.now es) }
         ensures answer { (image : List ℕ) (s : Shown) (es : List (ℕ × Policy)) → L.agrees l.new image → IsPolicyOrder s.policies → PoliciesStand self.now.area image s es → result ≡ first_policy s.policies flow.now }
     {
         self.first_found(l, flow)

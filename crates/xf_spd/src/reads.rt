@@ -52,6 +52,7 @@ impl Spd {
         ensures among { Narrows (L.agrees l.old) (L.agrees l.new) }
         ensures loads { L.loads l.new ≤ L.loads l.old + 1 }
         ensures answer { (image : List ℕ) (s : Shown) (es : List (ℕ × Policy)) → L.agrees l.new image → s.next_number < 2 ^ 63 → PoliciesStand self.now.area image s es → result ≡ s.next_number }
+        ensures young { (image : List ℕ) (s : Shown) (es : List (ℕ × Policy)) → L.agrees l.new image → PoliciesStand self.now.area image s es → result < 2 ^ 63 → s.next_number ≡ result }
     {
         Listing { area: self.area }.number_word(l)
     }
