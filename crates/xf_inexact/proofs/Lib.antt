@@ -1,0 +1,11 @@
+pub mod Apart
+pub mod BinKeys
+pub mod Visited
+pub mod Levels
+pub mod Bests
+pub mod Costs
+pub mod NodeLaws
+pub mod Staying
+pub mod Loads
+pub mod Most
+pub mod Once

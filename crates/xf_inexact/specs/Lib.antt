@@ -1,0 +1,10 @@
+pub mod Places
+pub mod PlaceLaws
+pub mod Keys
+pub mod KeyLaws
+pub mod Walks
+pub mod Holds
+pub mod FirstLaws
+pub mod HoldLaws
+pub mod Bounds
+pub mod BoundLaws

@@ -1,0 +1,33 @@
+//! Laws of the definitions. No code calls these functions; proofs cite the lemmas.
+ghost use Rattle.xf_inexact.specs.BoundLaws.{BoundLaws};
+ghost use Rattle.xf_inexact.specs.FirstLaws.{FirstLaws};
+ghost use Rattle.xf_inexact.specs.HoldLaws.{HoldLaws};
+ghost use Rattle.xf_inexact.specs.KeyLaws.{KeyLaws};
+ghost use Rattle.xf_inexact.specs.PlaceLaws.{PlaceLaws};
+
+use crate::inexact::Inexact;
+
+/// The words of trees, of chains and of policies lie apart.
+pub fn places(inexact: &Inexact)
+    ensures { PlaceLaws inexact.now }
+{}
+
+/// Keys tell bins apart.
+pub fn bins()
+    ensures { KeyLaws }
+{}
+
+/// Nothing is lost by asking the nodes that hold the flow's addresses.
+pub fn firsts(inexact: &Inexact)
+    ensures { FirstLaws inexact.now }
+{}
+
+/// Words of zeros hold no policy, and a part none of whose words was written stays.
+pub fn holds(inexact: &Inexact)
+    ensures { HoldLaws inexact.now }
+{}
+
+/// What a lookup loads at most.
+pub fn bounds(inexact: &Inexact)
+    ensures { BoundLaws inexact.now }
+{}
