@@ -43,6 +43,8 @@ pub mod RemovePools
 pub mod Removals
 pub mod Empties
 pub mod Calls
+pub mod RoomLaws
+pub mod RoomFrames
 pub mod Singles
 pub mod Found
 pub mod Owners

@@ -16,6 +16,7 @@ use Rattle.xf_trie.specs.Nodes.{Lies, place_of}
 use Rattle.xf_trie.specs.Pools.{IsPrefixSet}
 use Rattle.xf_trie.specs.Puts.{Puts, put_tree, put_uses}
 use Rattle.xf_trie.specs.Removals.{removed}
+use Rattle.xf_trie.specs.Rooms.{has_room}
 use Rattle.xf_trie.specs.Takes.{Takes, remove_frees, remove_tree}
 use Rattle.xf_trie.specs.Trees.{IsTree, Leaf, Tree, holds, is_prefix, items_of, size_of}
 
@@ -62,6 +63,9 @@ pub record ForestLaws (trie : Trie) : Type 0 where
       → slice_index words trie.free ≡ slice_index image trie.free → slice_index words (trie.free + 1) ≡ slice_index image (trie.free + 1)
       → ((r : ℕ) → roots r ≡ true → slice_index words r ≡ slice_index image r)
       → IsForest trie image roots trees free → IsForest trie words roots trees free
+  -- where two nodes are free, there is room
+  pub room : (image : List ℕ) (roots : ℕ → Bool) (trees : ℕ → Tree) (free : List ℕ) (root : ℕ)
+      → IsForest trie image roots trees free → 2 ≤ length free → has_room (at_root trie root) image ≡ true
   -- an insertion into the tree at one root leaves the trees at the others
   pub put : (image : List ℕ) (roots : ℕ → Bool) (trees : ℕ → Tree) (first second : ℕ) (rest : List ℕ) (root key len : ℕ)
       → Lies (at_root trie root) (length image) → Layouts trie roots → len ≤ 128 → key < 2 ^ 128

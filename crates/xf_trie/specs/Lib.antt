@@ -3,6 +3,7 @@ pub mod Nodes
 pub mod Walks
 pub mod Spares
 pub mod Insertions
+pub mod Rooms
 pub mod Removals
 pub mod Trees
 pub mod Slots

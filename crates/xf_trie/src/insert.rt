@@ -12,8 +12,8 @@ use xf_cells::Cells;
 use xf_types::Prefix;
 
 impl Trie {
-    // Puts a prefix into the tree, by the two free nodes that come first.
-    fn insert_free<C: Cells>(&self, c: &mut C, key: u128, len: u8) -> u32
+    /// Puts a prefix into the tree, by the two free nodes that come first.
+    pub(crate) fn insert_free<C: Cells>(&self, c: &mut C, key: u128, len: u8) -> u32
         requires lies { Lies self.now (C.size c.old) }
         requires begun { C.begun c.old ≡ true }
         requires len { len ≤ 128 }

@@ -22,6 +22,7 @@ mod laws;
 mod lookup;
 mod put;
 mod remove;
+mod room;
 #[cfg(test)]
 mod tests;
 mod tidy;
