@@ -5,17 +5,17 @@ use Rattle.xf_types.specs.Machine.{Shown}
 use Rattle.xf_chain.specs.Lists.{first_of}
 use Rattle.xf_index.specs.Indexes.{slots_in, records_in}
 use Rattle.xf_image.specs.declared.area.PolicyArea.{PolicyArea}
-use Rattle.xf_image.specs.Policies.{PoliciesStand}
+use Rattle.xf_inexact.specs.Whole.{SpdStands}
 use Rattle.xf_beside.specs.Passing.{Asking}
 use Rattle.xf_beside.proofs.Passed.{records_length, append_nil, same_slot, no_more, none_comes}
 
 pub asking_begins : (a : PolicyArea) (words : List ℕ) (test : Policy → Bool) (s : Shown) (es : List (ℕ × Policy)) (at : Option ℕ) (count : ℕ)
-    → PoliciesStand a words s es → at ≡ first_of (slots_in es) → count ≡ length s.policies → Asking test es at count []
+    → SpdStands a words s es → at ≡ first_of (slots_in es) → count ≡ length s.policies → Asking test es at count []
 asking_begins a words test s es at count st first all = record {
   front = [];
   back = es;
   at_is = first;
-  left_is = records_length es ∙ (ap (λ (ps : List Policy). length ps) st.listed ∙ sym all);
+  left_is = records_length es ∙ (ap (λ (ps : List Policy). length ps) st.list.listed ∙ sym all);
   whole = refl;
   asked = refl;
 }
@@ -53,10 +53,10 @@ ends_by : (test : Policy → Bool) (es : List (ℕ × Policy)) (found : List Pol
 ends_by test es found [] e asked = sym (append_nil found) ∙ asked
 ends_by test es found (x ∷ back) e asked = absurd (cc)
 
-pub asking_ends : (a : PolicyArea) (words : List ℕ) (test : Policy → Bool) (s : Shown) (es : List (ℕ × Policy)) (at : Option ℕ) (left : ℕ) (found : List Policy) → left ≡ 0 → PoliciesStand a words s es
+pub asking_ends : (a : PolicyArea) (words : List ℕ) (test : Policy → Bool) (s : Shown) (es : List (ℕ × Policy)) (at : Option ℕ) (left : ℕ) (found : List Policy) → left ≡ 0 → SpdStands a words s es
     → Asking test es at left found → found ≡ filter test s.policies
-asking_ends a words test s es at left found e st k = ends_by test es found k.back (no_more k.back (k.left_is ∙ e)) k.asked ∙ ap (λ (ps : List Policy). filter test ps) st.listed
+asking_ends a words test s es at left found e st k = ends_by test es found k.back (no_more k.back (k.left_is ∙ e)) k.asked ∙ ap (λ (ps : List Policy). filter test ps) st.list.listed
 
-pub asking_stops : (a : PolicyArea) (words : List ℕ) (test : Policy → Bool) (s : Shown) (es : List (ℕ × Policy)) (at : Option ℕ) (left : ℕ) (found : List Policy) → at ≡ None → PoliciesStand a words s es
+pub asking_stops : (a : PolicyArea) (words : List ℕ) (test : Policy → Bool) (s : Shown) (es : List (ℕ × Policy)) (at : Option ℕ) (left : ℕ) (found : List Policy) → at ≡ None → SpdStands a words s es
     → Asking test es at left found → found ≡ filter test s.policies
-asking_stops a words test s es at left found e st k = ends_by test es found k.back (none_comes k.back (sym e ∙ k.at_is)) k.asked ∙ ap (λ (ps : List Policy). filter test ps) st.listed
+asking_stops a words test s es at left found e st k = ends_by test es found k.back (none_comes k.back (sym e ∙ k.at_is)) k.asked ∙ ap (λ (ps : List Policy). filter test ps) st.list.listed

@@ -20,7 +20,7 @@ use Rattle.xf_laws.proofs.MachineLemmas.{step-kept}
 use Rattle.xf_laws.proofs.StepLemmas.{step-refused}
 use Rattle.xf_image.specs.declared.area.PolicyArea.{PolicyArea}
 use Rattle.xf_image.specs.Layout.{next_number_place}
-use Rattle.xf_image.specs.Policies.{PoliciesStand, RepresentsPolicies}
+use Rattle.xf_inexact.specs.Whole.{SpdStands}
 use Rattle.xf_spd.specs.declared.faults.SpdFault.{SpdFault}
 use Rattle.xf_spd.specs.declared.faults.SpdFault.TheVariants.{Invalid, Exists, NoEntry, Full}
 use Rattle.xf_spd.specs.Changes.{IsAt}
@@ -30,7 +30,7 @@ use Rattle.xf_beside.specs.Standing.{StandsFor, IsYoung, Answers}
 -- what holds of each machine that a run reaches, at this time
 pub is_at : (a : PolicyArea) (words : List ℕ) (now : ℕ) (m : Machine) → IsYoung a words → StandsFor a words now m → IsAt m.shown now
 is_at a words now m young st =
-    let n : slice_index words (next_number_place a) + 1 ≡ m.shown.next_number = st.stands.counters.next_number in
+    let n : slice_index words (next_number_place a) + 1 ≡ m.shown.next_number = st.stands.list.counters.next_number in
     record { number = omega (arith, n, young); policies = st.is.shown.policies; room = st.is.shown.room; range = st.is.shown.range; time = st.time }
 
 -- ---- no rule of a policy's call goes on in time
@@ -68,15 +68,20 @@ time_delete s key = either_time s (is_bad_key key) _ _ refl (time_deleted s key 
 
 -- ---- the machine afterwards
 
+-- The words stand for what is shown, with its policies in some slots.
+pub record Represents (a : PolicyArea) (words : List ℕ) (s : Shown) : Type 0 where
+  pub entries : List (ℕ × Policy)
+  pub stands : SpdStands a words s entries
+
 -- the words stand for what the rule makes
 pub ruled : (a : PolicyArea) (words image : List ℕ) (now : ℕ) (m : Machine) (c : Call) (r : Answer) (es : List (ℕ × Policy))
     → StandsFor a words now m → rule_of m.shown c ≡ ByShown r → (shown_after m.shown r.change).time ≡ m.shown.time
-    → PoliciesStand a image (shown_after m.shown r.change) es → StandsFor a image now (step m c).machine
+    → SpdStands a image (shown_after m.shown r.change) es → StandsFor a image now (step m c).machine
 ruled a words image now m c r es st e time new =
     subst (λ rule. StandsFor a image now (by_rule m rule).machine) (sym e)
     (record {
       entries = es;
-      stands = subst (λ (s : Shown). PoliciesStand a image s es) (sym (applied-shown m r.change)) new;
+      stands = subst (λ (s : Shown). SpdStands a image s es) (sym (applied-shown m r.change)) new;
       is = subst (λ rule. IsMachine (by_rule m rule).machine) e (step-kept m c st.is);
       time = ap (λ (s : Shown). s.time) (applied-shown m r.change) ∙ (time ∙ st.time);
     })
@@ -108,7 +113,7 @@ pub record StandsForSome (a : PolicyArea) (words : List ℕ) (now : ℕ) : Type 
 -- one is left, whichever the result is
 pub left_by : (X : ℕ → Type 0) (r : Result ℕ SpdFault) (a : PolicyArea) (words image : List ℕ) (now : ℕ) (m : Machine) (c : Call) (rule : Answer)
     → StandsFor a words now m → rule_of m.shown c ≡ ByShown rule → (shown_after m.shown rule.change).time ≡ m.shown.time
-    → (IsErr r → image ≡ words) → IfOk r X → ((i : ℕ) → X i → RepresentsPolicies a image (shown_after m.shown rule.change)) → StandsForSome a image now
+    → (IsErr r → image ≡ words) → IfOk r X → ((i : ℕ) → X i → Represents a image (shown_after m.shown rule.change)) → StandsForSome a image now
 left_by X (Ok i) a words image now m c rule st e time err ok to =
     let new = to i ok in record { machine = (step m c).machine; for_it = ruled a words image now m c rule new.entries st e time new.stands }
 left_by X (Err f) a words image now m c rule st e time err ok to = record { machine = m; for_it = still a words image now m (err refl) st }
@@ -119,7 +124,7 @@ reply_by m c rule e = ap (λ x. (by_rule m x).reply) e
 -- it is the machine after the call, and the result its reply
 pub answered_by : (X : ℕ → Type 0) (r : Result ℕ SpdFault) (a : PolicyArea) (words image : List ℕ) (now : ℕ) (m : Machine) (c : Call) (rule : Answer)
     → StandsFor a words now m → rule_of m.shown c ≡ ByShown rule → (shown_after m.shown rule.change).time ≡ m.shown.time
-    → (IsErr r → image ≡ words) → IfOk r X → ((i : ℕ) → X i → RepresentsPolicies a image (shown_after m.shown rule.change))
+    → (IsErr r → image ≡ words) → IfOk r X → ((i : ℕ) → X i → Represents a image (shown_after m.shown rule.change))
     → index_reply r ≡ rule.reply → Answers a image now (index_reply r) (step m c)
 answered_by X (Ok i) a words image now m c rule st e time err ok to reply =
     let new = to i ok in
@@ -131,7 +136,7 @@ answered_by X (Err f) a words image now m c rule st e time err ok to reply =
 -- a policy left, or none did
 pub answered_deleted : (r : Result ℕ SpdFault) (a : PolicyArea) (words image : List ℕ) (now : ℕ) (m : Machine) (key : PolicyKey) (es : List (ℕ × Policy))
     → StandsFor a words now m → (IsErr r → image ≡ words)
-    → (IsOk r → PoliciesStand a image (shown_after m.shown (policy_delete m.shown key).change) es)
+    → (IsOk r → SpdStands a image (shown_after m.shown (policy_delete m.shown key).change) es)
     → index_reply r ≡ (policy_delete m.shown key).reply → Answers a image now (index_reply r) (step m (PolicyDelete key))
 answered_deleted (Ok i) a words image now m key es st err ok reply =
     record { reply = reply; stands = ruled a words image now m (PolicyDelete key) (policy_delete m.shown key) es st refl (time_delete m.shown key) (ok refl) }

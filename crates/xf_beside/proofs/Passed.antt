@@ -9,7 +9,7 @@ use Rattle.xf_chain.specs.Lists.{first_of}
 use Rattle.xf_index.specs.Indexes.{slots_in, records_in}
 use Rattle.xf_image.specs.declared.area.PolicyArea.{PolicyArea}
 use Rattle.xf_image.specs.Entries.{slot_left, with_policies, IsEntry}
-use Rattle.xf_image.specs.Policies.{PoliciesStand}
+use Rattle.xf_inexact.specs.Whole.{SpdStands}
 use Rattle.xf_image.proofs.Parts.{left_is}
 use Rattle.xf_spd.proofs.Alone.{parts_miss}
 use Rattle.xf_beside.specs.Passing.{StandsWith, Passes, Removing}
@@ -40,15 +40,15 @@ records_length [] = refl
 records_length (e ∷ es) = let h : length es ≡ length (records_in es) = records_length es in omega (arith, h)
 
 pub removing_begins : (a : PolicyArea) (words : List ℕ) (test : Policy → Bool) (s : Shown) (es : List (ℕ × Policy)) (at : Option ℕ) (count : ℕ)
-    → PoliciesStand a words s es → at ≡ first_of (slots_in es) → count ≡ length s.policies → Removing a words test s at count 0
+    → SpdStands a words s es → at ≡ first_of (slots_in es) → count ≡ length s.policies → Removing a words test s at count 0
 removing_begins a words test s es at count st first all = record {
   front = [];
   back = es;
   at_is = first;
-  left_is = records_length es ∙ (ap (λ (ps : List Policy). length ps) st.listed ∙ sym all);
-  stands = subst (λ (ps : List Policy). PoliciesStand a words (with_policies s ps) es) (sym st.listed) st;
-  stayed = ap (λ (ps : List Policy). without test ps) st.listed;
-  counted = (let c : count_by test (records_in es) ≡ count_by test s.policies = ap (λ (ps : List Policy). count_by test ps) st.listed in omega (arith, c));
+  left_is = records_length es ∙ (ap (λ (ps : List Policy). length ps) st.list.listed ∙ sym all);
+  stands = subst (λ (ps : List Policy). SpdStands a words (with_policies s ps) es) (sym st.list.listed) st;
+  stayed = ap (λ (ps : List Policy). without test ps) st.list.listed;
+  counted = (let c : count_by test (records_in es) ≡ count_by test s.policies = ap (λ (ps : List Policy). count_by test ps) st.list.listed in omega (arith, c));
 }
 
 -- ---- it goes on
@@ -91,7 +91,7 @@ same_slot slot other e = cc
 going_by : (a : PolicyArea) (words image : List ℕ) (test : Policy → Bool) (s : Shown) (slot : ℕ) (next : Option ℕ) (left removed one : ℕ) (front back : List (ℕ × Policy))
     → Some slot ≡ first_of (slots_in back) → length back ≡ left → StandsWith a words s (front ++ back)
     → records_in front ++ without test (records_in back) ≡ without test s.policies → removed + count_by test (records_in back) ≡ count_by test s.policies
-    → ((t : Shown) (front back : List (ℕ × Policy)) (p : Policy) → PoliciesStand a words t (front ++ ((slot, p) ∷ back)) → next ≡ first_of (slots_in back))
+    → ((t : Shown) (front back : List (ℕ × Policy)) (p : Policy) → SpdStands a words t (front ++ ((slot, p) ∷ back)) → next ≡ first_of (slots_in back))
     → ((t : Shown) (front back : List (ℕ × Policy)) (p : Policy) → StandsWith a words t (front ++ ((slot, p) ∷ back)) → Passes a image t front slot p back (test p) one)
     → Removing a image test s next (left - 1) (removed + one)
 going_by a words image test s slot next left removed one front [] e len st stay count at pass = absurd (cc)
@@ -103,7 +103,7 @@ going_by a words image test s slot next left removed one front (x ∷ back) e le
 
 pub removing_goes : (a : PolicyArea) (words image : List ℕ) (test : Policy → Bool) (s : Shown) (slot : ℕ) (next : Option ℕ) (left removed one : ℕ)
     → Removing a words test s (Some slot) left removed
-    → ((t : Shown) (front back : List (ℕ × Policy)) (p : Policy) → PoliciesStand a words t (front ++ ((slot, p) ∷ back)) → next ≡ first_of (slots_in back))
+    → ((t : Shown) (front back : List (ℕ × Policy)) (p : Policy) → SpdStands a words t (front ++ ((slot, p) ∷ back)) → next ≡ first_of (slots_in back))
     → ((t : Shown) (front back : List (ℕ × Policy)) (p : Policy) → StandsWith a words t (front ++ ((slot, p) ∷ back)) → Passes a image t front slot p back (test p) one)
     → Removing a image test s next (left - 1) (removed + one)
 removing_goes a words image test s slot next left removed one k at pass =
@@ -117,7 +117,7 @@ pub record Comes (a : PolicyArea) (words : List ℕ) (slot : ℕ) : Type 0 where
   pub entries : List (ℕ × Policy)
   pub policy : Policy
   pub is : IsEntry entries slot policy
-  pub stands : PoliciesStand a words shown entries
+  pub stands : SpdStands a words shown entries
 
 comes_by : (a : PolicyArea) (words : List ℕ) (s : Shown) (slot : ℕ) (front back : List (ℕ × Policy)) → Some slot ≡ first_of (slots_in back) → StandsWith a words s (front ++ back) → Comes a words slot
 comes_by a words s slot front [] e st = absurd (cc)
@@ -147,7 +147,7 @@ entries_nil (e ∷ es) = ap (λ (l : List (ℕ × Policy)). e ∷ l) (entries_ni
 -- All were passed.
 pub record Removed (a : PolicyArea) (words : List ℕ) (test : Policy → Bool) (s : Shown) (removed : ℕ) : Type 0 where
   pub entries : List (ℕ × Policy)
-  pub stands : PoliciesStand a words (with_policies s (without test s.policies)) entries
+  pub stands : SpdStands a words (with_policies s (without test s.policies)) entries
   pub count : removed ≡ count_by test s.policies
 
 ends_at : (a : PolicyArea) (words : List ℕ) (test : Policy → Bool) (s : Shown) (removed : ℕ) (front back : List (ℕ × Policy)) → back ≡ [] → StandsWith a words s (front ++ back)
@@ -157,7 +157,7 @@ ends_at a words test s removed front [] e st stay count =
     let one : StandsWith a words s front = subst (λ (es : List (ℕ × Policy)). StandsWith a words s es) (entries_nil front) st in
     record {
       entries = front;
-      stands = subst (λ (ps : List Policy). PoliciesStand a words (with_policies s ps) front) r one;
+      stands = subst (λ (ps : List Policy). SpdStands a words (with_policies s ps) front) r one;
       count = omega (arith, count);
     }
 ends_at a words test s removed front (x ∷ back) e st stay count = absurd (cc)

@@ -7,11 +7,11 @@ use Rattle.xf_chain.specs.Lists.{first_of}
 use Rattle.xf_index.specs.Indexes.{slots_in, records_in}
 use Rattle.xf_image.specs.declared.area.PolicyArea.{PolicyArea}
 use Rattle.xf_image.specs.Entries.{with_policies}
-use Rattle.xf_image.specs.Policies.{PoliciesStand}
+use Rattle.xf_inexact.specs.Whole.{SpdStands}
 
 -- the words stand for the policies of these entries, and for what else is shown
 abbrev pub StandsWith : PolicyArea → List ℕ → Shown → List (ℕ × Policy) → Type 0
-StandsWith a words s entries = PoliciesStand a words (with_policies s (records_in entries)) entries
+StandsWith a words s entries = SpdStands a words (with_policies s (records_in entries)) entries
 
 -- those between which a policy stands, with it or without it
 abbrev pub passed : Bool → List (ℕ × Policy) → ℕ → Policy → List (ℕ × Policy) → List (ℕ × Policy)

@@ -5,15 +5,15 @@ use Rattle.xf_types.specs.declared.policy.Policy.{Policy}
 use Rattle.xf_types.specs.IsMachine.{IsMachine}
 use Rattle.xf_types.specs.Machine.{Machine, Outcome}
 use Rattle.xf_image.specs.declared.area.PolicyArea.{PolicyArea}
-use Rattle.xf_image.specs.Layout.{Fits, next_number_place}
-use Rattle.xf_image.specs.Policies.{PoliciesStand}
+use Rattle.xf_image.specs.Layout.{next_number_place}
+use Rattle.xf_inexact.specs.Whole.{SpdStands, WholeFits}
 use Rattle.xf_image.specs.Readings.{listed_in}
 use Rattle.xf_spd.specs.Slots.{PoolFits}
 
 -- The words stand for the policies of this machine, whose time it is.
 pub record StandsFor (a : PolicyArea) (words : List ℕ) (now : ℕ) (m : Machine) : Type 0 where
   pub entries : List (ℕ × Policy)
-  pub stands : PoliciesStand a words m.shown entries
+  pub stands : SpdStands a words m.shown entries
   pub is : IsMachine m
   pub time : m.shown.time ≡ now
 
@@ -34,5 +34,5 @@ pub record Answers (a : PolicyArea) (words : List ℕ) (now : ℕ) (answer : Rep
 
 -- The words lie in so many, and stand at time 0 for some machine.
 pub record IsBeside (a : PolicyArea) (size : ℕ) (words : List ℕ) (all out : ℕ) (gives takes : ℕ → Type 0) : Type 0 where
-  pub fits : Fits a size
+  pub fits : WholeFits a size
   pub stood : Stood a words 0 all out gives takes

@@ -3,7 +3,7 @@ ghost use Rattle.std.specs.Prelude.{◌≡◌, ℕ, true};
 ghost use Rattle.xf_types.specs.declared.call.Call.TheVariants.{PolicyAdd, PolicyUpdate};
 ghost use Rattle.xf_types.specs.Machine.{Machine};
 ghost use Rattle.xf_types.specs.Steps.{step};
-ghost use Rattle.xf_image.specs.Layout.{Fits};
+ghost use Rattle.xf_inexact.specs.Whole.{WholeFits};
 ghost use Rattle.xf_beside.specs.Standing.{StandsFor, Stood, IsYoung, Answers};
 
 use crate::replying::index_reply;
@@ -18,7 +18,7 @@ pub fn add<C: Cells, P: Pool>(
     spec: &PolicySpec,
     now: u64,
 ) -> Reply
-    requires fits { Fits spd.now.area (C.size c.old) }
+    requires fits { WholeFits spd.now.area (C.size c.old) }
     requires lasts { P.lasts pool.old ≡ true }
     requires young { IsYoung spd.now.area (C.words c.old) }
     requires stood { Stood spd.now.area (C.words c.old) now (P.capacity pool.old) (P.taken pool.old) (P.gives pool.old) (P.takes pool.old) }
@@ -38,7 +38,7 @@ pub fn update<C: Cells, P: Pool>(
     spec: &PolicySpec,
     now: u64,
 ) -> Reply
-    requires fits { Fits spd.now.area (C.size c.old) }
+    requires fits { WholeFits spd.now.area (C.size c.old) }
     requires lasts { P.lasts pool.old ≡ true }
     requires young { IsYoung spd.now.area (C.words c.old) }
     requires stood { Stood spd.now.area (C.words c.old) now (P.capacity pool.old) (P.taken pool.old) (P.gives pool.old) (P.takes pool.old) }

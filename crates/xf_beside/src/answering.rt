@@ -2,7 +2,7 @@
 ghost use Rattle.std.specs.Prelude.{◌≡◌, ℕ, IsTrue, true, IfSome};
 ghost use Rattle.xf_types.specs.Machine.{Machine};
 ghost use Rattle.xf_types.specs.Steps.{step};
-ghost use Rattle.xf_image.specs.Layout.{Fits};
+ghost use Rattle.xf_inexact.specs.Whole.{WholeFits};
 ghost use Rattle.xf_beside.specs.Standing.{StandsFor, Stood, IsYoung, Answers};
 
 use crate::adding::{add, update};
@@ -21,7 +21,7 @@ use xf_types::{Call, Reply};
 
 /// Whether far fewer policies were listed than there are numbers.
 fn is_young<C: Cells>(spd: &Spd, c: &mut C) -> bool
-    requires { Fits spd.now.area (C.size c.old) }
+    requires { WholeFits spd.now.area (C.size c.old) }
     ensures size { C.size c.new ≡ C.size c.old }
     ensures words { C.words c.new ≡ C.words c.old }
     ensures young { IsTrue result → IsYoung spd.now.area (C.words c.old) }
@@ -31,7 +31,7 @@ fn is_young<C: Cells>(spd: &Spd, c: &mut C) -> bool
 
 /// What a call that changes nothing tells. None for any other call, and where a flow's policy has templates for it.
 fn tell<C: Cells>(alloc: Global, spd: &Spd, c: &mut C, call: &Call) -> Option<Reply>
-    requires { Fits spd.now.area (C.size c.old) }
+    requires { WholeFits spd.now.area (C.size c.old) }
     ensures size { C.size c.new ≡ C.size c.old }
     ensures words { C.words c.new ≡ C.words c.old }
 {
@@ -57,7 +57,7 @@ pub fn answer<C: Cells, P: Pool>(
     call: &Call,
     now: u64,
 ) -> Option<Reply>
-    requires fits { Fits spd.now.area (C.size c.old) }
+    requires fits { WholeFits spd.now.area (C.size c.old) }
     requires lasts { P.lasts pool.old ≡ true }
     requires stood { Stood spd.now.area (C.words c.old) now (P.capacity pool.old) (P.taken pool.old) (P.gives pool.old) (P.takes pool.old) }
     ensures size { C.size c.new ≡ C.size c.old }

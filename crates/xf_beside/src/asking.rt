@@ -5,8 +5,7 @@ ghost use Rattle.xf_types.specs.Changes.{stays};
 ghost use Rattle.xf_types.specs.FlowRules.{WantAnswer, by_action, by_policy};
 ghost use Rattle.xf_types.specs.Machine.{Shown};
 ghost use Rattle.xf_types.specs.PolicyList.{IsPolicyOrder, first_policy};
-ghost use Rattle.xf_image.specs.Layout.{Fits};
-ghost use Rattle.xf_image.specs.Policies.{PoliciesStand};
+ghost use Rattle.xf_inexact.specs.Whole.{SpdStands, WholeFits};
 ghost use Rattle.xf_beside.specs.Asking.{wants_states};
 
 use crate::cursor;
@@ -44,10 +43,10 @@ fn under(policy: &Policy, flow: &Flow) -> Option<Reply>
 
 /// What a flow comes to. None where its policy has templates for it.
 pub fn ask<C: Cells>(spd: &Spd, c: &mut C, flow: &Flow) -> Option<Reply>
-    requires { Fits spd.now.area (C.size c.old) }
+    requires { WholeFits spd.now.area (C.size c.old) }
     ensures size { C.size c.new ≡ C.size c.old }
     ensures words { C.words c.new ≡ C.words c.old }
-    ensures answer { (s : Shown) (es : List (ℕ × Policy)) (wants : Policy → WantAnswer) → IsPolicyOrder s.policies → PoliciesStand spd.now.area (C.words c.old) s es → IfSome result (λ reply. by_policy s flow.now wants (first_policy s.policies flow.now) ≡ stays reply) }
+    ensures answer { (s : Shown) (es : List (ℕ × Policy)) (wants : Policy → WantAnswer) → IsPolicyOrder s.policies → SpdStands spd.now.area (C.words c.old) s es → IfSome result (λ reply. by_policy s flow.now wants (first_policy s.policies flow.now) ≡ stays reply) }
 {
     match cursor::first(spd, c, flow) {
         None => Some(Reply::FlowNone),

@@ -2,6 +2,7 @@
 ghost use Rattle.std.specs.Prelude.{◌≡◌, ◌≤◌};
 
 use crate::answering::answer;
+use crate::sparing::spare;
 use std::alloc::Global;
 use std::marker::Model;
 use xf_cells::{Cells, FreePool, Load, NoMemory, Pool, VecCells};
@@ -42,6 +43,11 @@ impl Beside {
     /// Answers a call. None where it is none of those that `answer` answers.
     pub fn answer(&mut self, alloc: Global, call: &Call) -> Option<Reply> {
         answer(alloc, &self.spd, &mut self.cells, &mut self.pool, call, 0)
+    }
+
+    /// How many nodes of the trees are free.
+    pub fn spare(&mut self) -> u32 {
+        spare(&self.spd, &mut self.cells)
     }
 
     /// How many words were loaded so far.

@@ -7,58 +7,57 @@ ghost use Rattle.xf_types.specs.PolicyList.{IsPolicyOrder, first_policy};
 ghost use Rattle.xf_chain.specs.Chains.{Below};
 ghost use Rattle.xf_chain.specs.Lists.{first_of};
 ghost use Rattle.xf_index.specs.Indexes.{slots_in};
-ghost use Rattle.xf_image.specs.Layout.{Fits};
-ghost use Rattle.xf_image.specs.Policies.{PoliciesStand};
+ghost use Rattle.xf_inexact.specs.Whole.{SpdStands, WholeFits};
 
 use xf_cells::Cells;
 use xf_spd::Spd;
 use xf_types::{Flow, Policy};
 
 pub fn count<C: Cells>(spd: &Spd, c: &mut C) -> u32
-    requires { Fits spd.now.area (C.size c.old) }
+    requires { WholeFits spd.now.area (C.size c.old) }
     ensures size { C.size c.new ≡ C.size c.old }
     ensures words { C.words c.new ≡ C.words c.old }
-    ensures answer { (s : Shown) (es : List (ℕ × Policy)) → IsInRoom s → PoliciesStand spd.now.area (C.words c.old) s es → result ≡ length s.policies }
+    ensures answer { (s : Shown) (es : List (ℕ × Policy)) → IsInRoom s → SpdStands spd.now.area (C.words c.old) s es → result ≡ length s.policies }
 {
     spd.count(c)
 }
 
 pub fn first_slot<C: Cells>(spd: &Spd, c: &mut C) -> Option<u32>
-    requires { Fits spd.now.area (C.size c.old) }
+    requires { WholeFits spd.now.area (C.size c.old) }
     ensures size { C.size c.new ≡ C.size c.old }
     ensures words { C.words c.new ≡ C.words c.old }
     ensures below { Below spd.now.area.slots result }
-    ensures answer { (s : Shown) (es : List (ℕ × Policy)) → PoliciesStand spd.now.area (C.words c.old) s es → result ≡ first_of (slots_in es) }
+    ensures answer { (s : Shown) (es : List (ℕ × Policy)) → SpdStands spd.now.area (C.words c.old) s es → result ≡ first_of (slots_in es) }
 {
     spd.first_slot(c)
 }
 
 pub fn next_slot<C: Cells>(spd: &Spd, c: &mut C, slot: u32) -> Option<u32>
-    requires fits { Fits spd.now.area (C.size c.old) }
+    requires fits { WholeFits spd.now.area (C.size c.old) }
     requires slot { slot < spd.now.area.slots }
     ensures size { C.size c.new ≡ C.size c.old }
     ensures words { C.words c.new ≡ C.words c.old }
     ensures below { Below spd.now.area.slots result }
-    ensures answer { (s : Shown) (front back : List (ℕ × Policy)) (p : Policy) → PoliciesStand spd.now.area (C.words c.old) s (front ++ ((slot, p) ∷ back)) → result ≡ first_of (slots_in back) }
+    ensures answer { (s : Shown) (front back : List (ℕ × Policy)) (p : Policy) → SpdStands spd.now.area (C.words c.old) s (front ++ ((slot, p) ∷ back)) → result ≡ first_of (slots_in back) }
 {
     spd.next_slot(c, slot)
 }
 
 pub fn policy<C: Cells>(spd: &Spd, c: &mut C, slot: u32) -> Option<Policy>
-    requires fits { Fits spd.now.area (C.size c.old) }
+    requires fits { WholeFits spd.now.area (C.size c.old) }
     requires slot { slot < spd.now.area.slots }
     ensures size { C.size c.new ≡ C.size c.old }
     ensures words { C.words c.new ≡ C.words c.old }
-    ensures answer { (s : Shown) (front back : List (ℕ × Policy)) (p : Policy) → PoliciesStand spd.now.area (C.words c.old) s (front ++ ((slot, p) ∷ back)) → result ≡ Some p }
+    ensures answer { (s : Shown) (front back : List (ℕ × Policy)) (p : Policy) → SpdStands spd.now.area (C.words c.old) s (front ++ ((slot, p) ∷ back)) → result ≡ Some p }
 {
     spd.policy(c, slot)
 }
 
 pub fn first<C: Cells>(spd: &Spd, c: &mut C, flow: &Flow) -> Option<Policy>
-    requires { Fits spd.now.area (C.size c.old) }
+    requires { WholeFits spd.now.area (C.size c.old) }
     ensures size { C.size c.new ≡ C.size c.old }
     ensures words { C.words c.new ≡ C.words c.old }
-    ensures answer { (s : Shown) (es : List (ℕ × Policy)) → IsPolicyOrder s.policies → PoliciesStand spd.now.area (C.words c.old) s es → result ≡ first_policy s.policies flow.now }
+    ensures answer { (s : Shown) (es : List (ℕ × Policy)) → IsPolicyOrder s.policies → SpdStands spd.now.area (C.words c.old) s es → result ≡ first_policy s.policies flow.now }
 {
     spd.first(c, flow)
 }

@@ -12,6 +12,7 @@ mod looping;
 mod removing;
 mod replying;
 mod setting;
+mod sparing;
 mod telling;
 #[cfg(test)]
 mod tests;

@@ -5,8 +5,7 @@ ghost use Rattle.xf_types.specs.IsMachine.{IsInRoom};
 ghost use Rattle.xf_types.specs.Machine.{Shown};
 ghost use Rattle.xf_types.specs.PolicyList.{policy_meets};
 ghost use Rattle.xf_types.specs.PolicyRules.{policy_list};
-ghost use Rattle.xf_image.specs.Layout.{Fits};
-ghost use Rattle.xf_image.specs.Policies.{PoliciesStand};
+ghost use Rattle.xf_inexact.specs.Whole.{SpdStands, WholeFits};
 
 use crate::cursor;
 use std::alloc::Global;
@@ -35,11 +34,11 @@ fn keep_in<C: Cells>(
     found: &mut Vec<Policy>,
     wanted: &PolicyFilter,
 ) -> Result<(), NoMemory>
-    requires fits { Fits spd.now.area (C.size c.old) }
+    requires fits { WholeFits spd.now.area (C.size c.old) }
     requires slot { slot < spd.now.area.slots }
     ensures size { C.size c.new ≡ C.size c.old }
     ensures words { C.words c.new ≡ C.words c.old }
-    ensures keeps { (s : Shown) (front back : List (ℕ × Policy)) (p : Policy) → PoliciesStand spd.now.area (C.words c.old) s (front ++ ((slot, p) ∷ back))
+    ensures keeps { (s : Shown) (front back : List (ℕ × Policy)) (p : Policy) → SpdStands spd.now.area (C.words c.old) s (front ++ ((slot, p) ∷ back))
         → OnOk result (found.new.items ≡ found.old.items ++ filter (policy_meets wanted.now) (p ∷ [])) }
 {
     match cursor::policy(spd, c, slot) {
@@ -50,10 +49,10 @@ fn keep_in<C: Cells>(
 
 /// The policies that a filter admits, in order.
 pub fn list<C: Cells>(alloc: Global, spd: &Spd, c: &mut C, wanted: &PolicyFilter) -> Reply
-    requires { Fits spd.now.area (C.size c.old) }
+    requires { WholeFits spd.now.area (C.size c.old) }
     ensures size { C.size c.new ≡ C.size c.old }
     ensures words { C.words c.new ≡ C.words c.old }
-    ensures answer { (s : Shown) (es : List (ℕ × Policy)) → IsInRoom s → PoliciesStand spd.now.area (C.words c.old) s es → result ≢ Reply.NoMemory → result ≡ (policy_list s wanted.now).reply }
+    ensures answer { (s : Shown) (es : List (ℕ × Policy)) → IsInRoom s → SpdStands spd.now.area (C.words c.old) s es → result ≢ Reply.NoMemory → result ≡ (policy_list s wanted.now).reply }
 {
     let mut found = Vec::new(alloc);
     let mut at = cursor::first_slot(spd, c);

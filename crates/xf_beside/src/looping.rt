@@ -4,8 +4,7 @@ ghost use Rattle.xf_types.specs.declared.policy.Policy.{Policy};
 ghost use Rattle.xf_types.specs.Machine.{Machine, Shown};
 ghost use Rattle.xf_types.specs.Steps.{step};
 ghost use Rattle.xf_image.specs.Entries.{IsEntry};
-ghost use Rattle.xf_image.specs.Layout.{Fits};
-ghost use Rattle.xf_image.specs.Policies.{PoliciesStand};
+ghost use Rattle.xf_inexact.specs.Whole.{SpdStands, WholeFits};
 ghost use Rattle.xf_image.specs.Readings.{listed_in};
 ghost use Rattle.xf_spd.specs.Slots.{PoolFits};
 ghost use Rattle.xf_beside.specs.Leaving.{leaves, call_of};
@@ -26,7 +25,7 @@ fn remove_if<C: Cells, P: Pool>(
     slot: u32,
     leaving: &Leaving,
 ) -> u32
-    requires fits { Fits spd.now.area (C.size c.old) }
+    requires fits { WholeFits spd.now.area (C.size c.old) }
     requires slot { slot < spd.now.area.slots }
     requires back { P.takes pool.old slot }
     ensures size { C.size c.new ≡ C.size c.old }
@@ -34,7 +33,7 @@ fn remove_if<C: Cells, P: Pool>(
     ensures few { result ≤ 1 }
     ensures passes { (s : Shown) (front back : List (ℕ × Policy)) (p : Policy) → StandsWith spd.now.area (C.words c.old) s (front ++ ((slot, p) ∷ back))
         → Passes spd.now.area (C.words c.new) s front slot p back (leaves leaving.now p) result }
-    ensures pool { (s : Shown) (es : List (ℕ × Policy)) (p : Policy) → P.lasts pool.old ≡ true → IsEntry es slot p → PoliciesStand spd.now.area (C.words c.old) s es → PoolFits (P.capacity pool.old) (P.taken pool.old) (P.gives pool.old) (P.takes pool.old) spd.now.area.slots (listed_in spd.now.area (C.words c.old)) → PoolFits (P.capacity pool.new) (P.taken pool.new) (P.gives pool.new) (P.takes pool.new) spd.now.area.slots (listed_in spd.now.area (C.words c.new)) }
+    ensures pool { (s : Shown) (es : List (ℕ × Policy)) (p : Policy) → P.lasts pool.old ≡ true → IsEntry es slot p → SpdStands spd.now.area (C.words c.old) s es → PoolFits (P.capacity pool.old) (P.taken pool.old) (P.gives pool.old) (P.takes pool.old) spd.now.area.slots (listed_in spd.now.area (C.words c.old)) → PoolFits (P.capacity pool.new) (P.taken pool.new) (P.gives pool.new) (P.takes pool.new) spd.now.area.slots (listed_in spd.now.area (C.words c.new)) }
 {
     match cursor::policy(spd, c, slot) {
         Some(policy) => {
@@ -51,7 +50,7 @@ fn remove_if<C: Cells, P: Pool>(
 
 /// All of these leave. The next slot is asked for before a policy leaves.
 pub fn remove_all<C: Cells, P: Pool>(spd: &Spd, c: &mut C, pool: &mut P, leaving: &Leaving) -> Reply
-    requires fits { Fits spd.now.area (C.size c.old) }
+    requires fits { WholeFits spd.now.area (C.size c.old) }
     requires lasts { P.lasts pool.old ≡ true }
     requires stood { (now : ℕ) × Stood spd.now.area (C.words c.old) now (P.capacity pool.old) (P.taken pool.old) (P.gives pool.old) (P.takes pool.old) }
     ensures size { C.size c.new ≡ C.size c.old }

@@ -3,7 +3,7 @@ ghost use Rattle.std.specs.Prelude.{◌≡◌, ℕ, true};
 ghost use Rattle.xf_types.specs.declared.call.Call.TheVariants.{PolicyDelete};
 ghost use Rattle.xf_types.specs.Machine.{Machine};
 ghost use Rattle.xf_types.specs.Steps.{step};
-ghost use Rattle.xf_image.specs.Layout.{Fits};
+ghost use Rattle.xf_inexact.specs.Whole.{WholeFits};
 ghost use Rattle.xf_beside.specs.Standing.{StandsFor, Stood, Answers};
 
 use crate::replying::index_reply;
@@ -12,7 +12,7 @@ use xf_spd::Spd;
 use xf_types::{PolicyKey, Reply};
 
 pub fn delete<C: Cells, P: Pool>(spd: &Spd, c: &mut C, pool: &mut P, key: &PolicyKey) -> Reply
-    requires fits { Fits spd.now.area (C.size c.old) }
+    requires fits { WholeFits spd.now.area (C.size c.old) }
     requires lasts { P.lasts pool.old ≡ true }
     requires stood { (now : ℕ) × Stood spd.now.area (C.words c.old) now (P.capacity pool.old) (P.taken pool.old) (P.gives pool.old) (P.takes pool.old) }
     ensures size { C.size c.new ≡ C.size c.old }

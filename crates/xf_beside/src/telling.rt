@@ -1,7 +1,7 @@
 //! How many policies there are, by their places.
 ghost use Rattle.std.specs.Prelude.{◌≡◌};
 ghost use Rattle.xf_cells.specs.Words.{Narrows};
-ghost use Rattle.xf_image.specs.Layout.{Fits};
+ghost use Rattle.xf_inexact.specs.Whole.{WholeFits};
 
 use xf_cells::Load;
 use xf_spd::Spd;
@@ -9,7 +9,7 @@ use xf_types::{Dir, Reply};
 
 /// How many policies a direction has, by their places.
 fn count_of<L: Load>(spd: &Spd, l: &mut L, dir: Dir) -> u32
-    requires { Fits spd.now.area (L.size l.old) }
+    requires { WholeFits spd.now.area (L.size l.old) }
     ensures size { L.size l.new ≡ L.size l.old }
     ensures begun { L.begun l.new ≡ L.begun l.old }
     ensures rest { L.rest l.new ≡ L.rest l.old }
@@ -29,7 +29,7 @@ fn count_of<L: Load>(spd: &Spd, l: &mut L, dir: Dir) -> u32
 
 /// How many policies each direction has.
 pub fn count<L: Load>(spd: &Spd, l: &mut L) -> Reply
-    requires { Fits spd.now.area (L.size l.old) }
+    requires { WholeFits spd.now.area (L.size l.old) }
     ensures size { L.size l.new ≡ L.size l.old }
     ensures begun { L.begun l.new ≡ L.begun l.old }
     ensures rest { L.rest l.new ≡ L.rest l.old }

@@ -1,11 +1,13 @@
 //! The policies in words beside the plain machine, reply by reply, and worked rows as text.
-ghost use Rattle.std.specs.Prelude.{◌≤◌};
+ghost use Rattle.std.specs.Prelude.{◌<◌, ◌≤◌};
 
 mod dice;
+mod nests;
 mod rows;
 
 use super::*;
 use dice::Dice;
+use nests::{flow_at, key_at, spec_at, thresholds_at};
 use std::alloc::Global;
 use std::process::Abort;
 use std::test::Fail;
@@ -79,6 +81,62 @@ fn small_batches_have_the_same_replies(rt: HostRuntime) -> Result<(), Fail> {
             both.agree(&rt, alloc, batch, place, &call);
         }
         assert_eq!(rt; both.answered, 400, "batch {batch}");
+    }
+    Ok(())
+}
+
+impl Both {
+    /// A call on a policy of each kind, the thresholds in between, and flows to all of them.
+    fn round(&mut self, rt: &impl Abort, alloc: Global, batch: u64, k: u8, calls: &[Call])
+        requires { k < 20 }
+    {
+        for call in calls {
+            self.agree(rt, alloc, batch, u64::from(k), call);
+        }
+        if k % 3 == 2 {
+            let call = Call::PolicySet(thresholds_at(k / 3));
+            self.agree(rt, alloc, batch, u64::from(k), &call);
+        }
+        for kind in 0..5 {
+            let call = Call::Flow(flow_at(kind, k));
+            self.agree(rt, alloc, batch, u64::from(k), &call);
+        }
+    }
+
+    /// 100 policies are listed, and deleted in the same order or in the reverse.
+    fn nest(&mut self, rt: &impl Abort, alloc: Global, batch: u64, reverse: bool) {
+        for k in 0..20_u8 {
+            let calls = [
+                Call::PolicyAdd(spec_at(0, k)),
+                Call::PolicyAdd(spec_at(1, k)),
+                Call::PolicyAdd(spec_at(2, k)),
+                Call::PolicyAdd(spec_at(3, k)),
+                Call::PolicyAdd(spec_at(4, k)),
+            ];
+            self.round(rt, alloc, batch, k, &calls);
+        }
+        for turn in 0..20_u8 {
+            let k = if reverse { 19 - turn } else { turn };
+            let calls = [
+                Call::PolicyDelete(key_at(0, k)),
+                Call::PolicyDelete(key_at(1, k)),
+                Call::PolicyDelete(key_at(2, k)),
+                Call::PolicyDelete(key_at(3, k)),
+                Call::PolicyDelete(key_at(4, k)),
+            ];
+            self.round(rt, alloc, batch, k, &calls);
+        }
+    }
+}
+
+#[test]
+fn nested_prefixes_have_the_same_replies(rt: HostRuntime) -> Result<(), Fail> {
+    let alloc = rt.alloc();
+    let mut both = begun(alloc, 100)?;
+    assert_eq!(rt; both.beside.spare(), 600);
+    for (batch, reverse) in [(1, false), (2, true)] {
+        both.nest(&rt, alloc, batch, reverse);
+        assert_eq!(rt; both.beside.spare(), 600, "batch {batch}");
     }
     Ok(())
 }

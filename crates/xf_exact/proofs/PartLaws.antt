@@ -1,38 +1,37 @@
--- What the first of each part is.
-use Rattle.std.proofs.Common.{◌≡◌, ℕ, ◌<◌, ◌==◌, Bool, true, false, not, cond, ◌&&◌, ◌||◌, List, [], ◌∷◌, Option, None, Some, refl, ap, sym, ◌∙◌, subst, arith, ◌+◌, ◌-◌, find, slice_index}
+-- What the first of the exact part is.
+use Rattle.std.proofs.Common.{◌≡◌, ℕ, ◌<◌, ◌==◌, Bool, true, false, not, cond, ◌&&◌, ◌||◌, List, [], ◌∷◌, Option, None, Some, refl, ap, ◌∙◌, arith, ◌+◌, ◌-◌, slice_index}
 use Rattle.std.proofs.lemmas.Bool.Decides.{nat_tests}
 use Rattle.xf_types.specs.declared.network.Flow.{Flow}
 use Rattle.xf_types.specs.declared.network.Ptype.{Ptype}
 use Rattle.xf_types.specs.declared.policy.Policy.{Policy}
 use Rattle.xf_types.specs.Address.{cut}
 use Rattle.xf_types.specs.Machine.{Shown}
-use Rattle.xf_types.specs.PolicyList.{applies, IsPolicyOrder}
+use Rattle.xf_types.specs.PolicyList.{applies}
 use Rattle.xf_chain.specs.declared.family.Family.{Family}
 use Rattle.xf_chain.specs.Chains.{slots_of}
 use Rattle.xf_chain.specs.Families.{chain_at}
-use Rattle.xf_index.specs.Indexes.{records_in, is_number, picked, Indexed}
+use Rattle.xf_index.specs.Indexes.{is_number, picked, Indexed}
 use Rattle.xf_index.proofs.Walked.{walk_picked}
 use Rattle.xf_image.specs.declared.area.PolicyArea.{PolicyArea}
-use Rattle.xf_image.specs.ExactKeys.{lens_of, dst_len, src_len, exact_words, exact_number, exact_key, other_key, only_without, flow_number}
-use Rattle.xf_image.specs.Layout.{thresholds_place, exact_of, others_of}
-use Rattle.xf_image.specs.Policies.{ColumnsStand, CountersStand, PoliciesStand}
+use Rattle.xf_image.specs.ExactKeys.{lens_of, dst_len, src_len, exact_words, exact_number, exact_key, flow_number}
+use Rattle.xf_image.specs.Layout.{thresholds_place, exact_of}
+use Rattle.xf_image.specs.Policies.{ColumnsStand, CountersStand}
 use Rattle.xf_image.specs.Readings.{hthresh6_in}
 use Rattle.xf_image.proofs.ExactLaws.{flow_key, words_below}
 use Rattle.xf_exact.specs.declared.query.Query.TheVariants.{Applies}
-use Rattle.xf_exact.specs.Hits.{hit_of, hit_at, first_of, better, policy_hit}
-use Rattle.xf_exact.specs.Parts.{is_in_exact, Tells, flow_number_in, first_on, exact_first, other_first}
+use Rattle.xf_exact.specs.Hits.{hit_of, hit_at, first_of}
+use Rattle.xf_exact.specs.Parts.{is_in_exact, Tells, flow_number_in, first_on, exact_first}
 use Rattle.xf_exact.proofs.FindingLaws.{found_is}
-use Rattle.xf_exact.proofs.HitLaws.{first_hit, hit_policy}
-use Rattle.xf_exact.proofs.BestLaws.{better_is}
+use Rattle.xf_exact.proofs.HitLaws.{first_hit}
 
 -- tests that agree find the same
-first_same : (one other : Policy → Bool) (es : List (ℕ × Policy)) → ((p : Policy) → one p ≡ other p) → first_of one es ≡ first_of other es
+pub first_same : (one other : Policy → Bool) (es : List (ℕ × Policy)) → ((p : Policy) → one p ≡ other p) → first_of one es ≡ first_of other es
 first_same one other [] f = refl
 first_same one other (e ∷ es) f =
     ap (λ b. cond b (Some (hit_of e)) (first_of one es)) (f e.1) ∙ ap (λ o. cond (other e.1) (Some (hit_of e)) o) (first_same one other es f)
 
 -- the first of a chain of an index
-on_chain : (a : PolicyArea) (image : List ℕ) (family : Family) (key : Policy → Option ℕ) (number : ℕ) (ptype : Ptype) (flow : Flow)
+pub on_chain : (a : PolicyArea) (image : List ℕ) (family : Family) (key : Policy → Option ℕ) (number : ℕ) (ptype : Ptype) (flow : Flow)
     (es : List (ℕ × Policy)) → number < family.count → Indexed family image key es → ColumnsStand a image es
     → first_on a image family number ptype flow ≡ first_of (λ p. is_number number (key p) && applies ptype flow p) es
 on_chain a image family key number ptype flow es below is s =
@@ -56,10 +55,6 @@ pub exact_slots : (a : PolicyArea) (image : List ℕ) (h4 h6 : ℕ × ℕ) (ptyp
 exact_slots a image h4 h6 ptype flow es t is =
     ap (λ n. slots_of (chain_at (exact_of a) n) image) (same_flow a image h4 h6 ptype flow t)
     ∙ walk_picked (exact_of a) image (exact_key h4 h6) (flow_number h4 h6 ptype flow) es (flow_below h4 h6 ptype flow) is
-
-pub other_slots : (a : PolicyArea) (image : List ℕ) (h4 h6 : ℕ × ℕ) (es : List (ℕ × Policy)) → Indexed (others_of a) image (other_key h4 h6) es
-    → slots_of (chain_at (others_of a) 0) image ≡ picked (other_key h4 h6) 0 es
-other_slots a image h4 h6 es is = walk_picked (others_of a) image (other_key h4 h6) 0 es (omega arith) is
 
 and_false : (b : Bool) → (b && false) ≡ false
 and_false true = refl
@@ -92,37 +87,10 @@ exact_first_is a image h4 h6 ptype flow es t is s =
     ∙ first_same (λ p. is_number number (exact_key h4 h6 p) && applies ptype flow p) (λ p. is_in_exact h4 h6 p && applies ptype flow p) es
     (exact_test h4 h6 ptype flow)
 
-left_over : (takes passes : Bool) (own : ℕ) → (is_number 0 (only_without (cond takes (Some own) None)) && passes) ≡ (not takes && passes)
-left_over true passes own = refl
-left_over false passes own = refl
-
-other_test : (h4 h6 : ℕ × ℕ) (ptype : Ptype) (flow : Flow) (p : Policy)
-    → (is_number 0 (other_key h4 h6 p) && applies ptype flow p) ≡ (not (is_in_exact h4 h6 p) && applies ptype flow p)
-other_test h4 h6 ptype flow p =
-    left_over (is_in_exact h4 h6 p) (applies ptype flow p)
-    (exact_number (lens_of h4 h6 p.spec.sel.src.addr) p.spec.ptype p.spec.dir p.spec.if_id p.spec.sel.dst.addr p.spec.sel.src.addr)
-
-pub other_first_is : (a : PolicyArea) (image : List ℕ) (h4 h6 : ℕ × ℕ) (ptype : Ptype) (flow : Flow) (es : List (ℕ × Policy))
-    → Indexed (others_of a) image (other_key h4 h6) es → ColumnsStand a image es
-    → other_first a image ptype flow ≡ first_of (λ p. not (is_in_exact h4 h6 p) && applies ptype flow p) es
-other_first_is a image h4 h6 ptype flow es is s =
-    on_chain a image (others_of a) (other_key h4 h6) 0 ptype flow es (omega arith) is s
-    ∙ first_same (λ p. is_number 0 (other_key h4 h6 p) && applies ptype flow p) (λ p. not (is_in_exact h4 h6 p) && applies ptype flow p) es
-    (other_test h4 h6 ptype flow)
-
-either : (b : Bool) → (b || not b) ≡ true
+-- a test passes or it doesn't
+pub either : (b : Bool) → (b || not b) ≡ true
 either true = refl
 either false = refl
-
--- the better of the two parts' first ones is the first of the list
-pub parts_first : (a : PolicyArea) (image : List ℕ) (h4 h6 : ℕ × ℕ) (ptype : Ptype) (flow : Flow) (es : List (ℕ × Policy)) → Tells a image h4 h6
-    → Indexed (exact_of a) image (exact_key h4 h6) es → Indexed (others_of a) image (other_key h4 h6) es → ColumnsStand a image es
-    → IsPolicyOrder (records_in es)
-    → better (exact_first a image ptype flow) (other_first a image ptype flow) ≡ first_of (applies ptype flow) es
-parts_first a image h4 h6 ptype flow es t one other s order =
-    ap (λ o. better o (other_first a image ptype flow)) (exact_first_is a image h4 h6 ptype flow es t one s)
-    ∙ ap (λ o. better (first_of (λ p. is_in_exact h4 h6 p && applies ptype flow p) es) o) (other_first_is a image h4 h6 ptype flow es other s)
-    ∙ better_is (applies ptype flow) (is_in_exact h4 h6) (λ p. not (is_in_exact h4 h6 p)) es (λ p e. either (is_in_exact h4 h6 p)) order
 
 -- the words of a policy list tell its thresholds
 pub stand_tell : (a : PolicyArea) (image : List ℕ) (s : Shown) → CountersStand a image s → Tells a image s.hthresh4 s.hthresh6
@@ -132,12 +100,3 @@ stand_tell a image s c =
     let local6 : 128 - slice_index image (thresholds_place a + 2) ≡ s.hthresh6.0 = let w = c.local6 in omega (arith, w) in
     let remote6 : 128 - slice_index image (thresholds_place a + 3) ≡ s.hthresh6.1 = let w = c.remote6 in omega (arith, w) in
     record { v4 = λ i. (local4 i, remote4 i); v6 = λ i. (local6 i, remote6 i) }
-
-pub parts_policy : (a : PolicyArea) (image : List ℕ) (s : Shown) (es : List (ℕ × Policy)) (ptype : Ptype) (flow : Flow) → PoliciesStand a image s es
-    → IsPolicyOrder s.policies
-    → policy_hit a image (better (exact_first a image ptype flow) (other_first a image ptype flow)) ≡ find (applies ptype flow) s.policies
-parts_policy a image s es ptype flow g order =
-    ap (policy_hit a image)
-    (parts_first a image s.hthresh4 s.hthresh6 ptype flow es (stand_tell a image s g.counters) g.links.exact g.links.others g.columns
-    (subst IsPolicyOrder (sym g.listed) order))
-    ∙ hit_policy a image (applies ptype flow) es g.columns.records ∙ ap (find (applies ptype flow)) g.listed

@@ -11,11 +11,11 @@ use Rattle.xf_index.proofs.Frames.{put_outside, taken_outside}
 use Rattle.xf_index.proofs.Puts.{indexed_put}
 use Rattle.xf_index.proofs.Takes.{indexed_taken}
 use Rattle.xf_image.specs.declared.area.PolicyArea.{PolicyArea}
-use Rattle.xf_image.specs.ExactKeys.{exact_key, other_key, only_without}
+use Rattle.xf_image.specs.ExactKeys.{exact_key}
 use Rattle.xf_image.specs.Placing.{place_in, before_in}
 use Rattle.xf_image.specs.Policies.{ColumnsStand}
 use Rattle.xf_image.specs.Readings.{hthresh6_in}
-use Rattle.xf_exact.specs.Parts.{Tells, exact_key_in, other_key_in, with_slot, without_slot}
+use Rattle.xf_exact.specs.Parts.{Tells, exact_key_in, with_slot, without_slot}
 use Rattle.xf_image.proofs.Placed.{before_found}
 use Rattle.xf_exact.proofs.PlacingLaws.{place_is}
 
@@ -23,9 +23,6 @@ use Rattle.xf_exact.proofs.PlacingLaws.{place_is}
 pub same_exact_key : (a : PolicyArea) (image : List ℕ) (h4 h6 : ℕ × ℕ) (p : Policy) → Tells a image h4 h6 → exact_key h4 h6 p ≡ exact_key_in a image p
 same_exact_key a image h4 h6 p t =
     sym (ap (λ h. exact_key h (hthresh6_in a image) p) t.v4 ∙ ap (λ h. exact_key h4 h p) t.v6)
-
-pub same_other_key : (a : PolicyArea) (image : List ℕ) (h4 h6 : ℕ × ℕ) (p : Policy) → Tells a image h4 h6 → other_key h4 h6 p ≡ other_key_in a image p
-same_other_key a image h4 h6 p t = ap only_without (same_exact_key a image h4 h6 p t)
 
 -- a policy that is put into its chain stands there between those before it and those after it, and all other chains stay
 pub part_put : (a : PolicyArea) (image words : List ℕ) (n : ℕ) (family : Family) (key : Policy → Option ℕ) (number : Option ℕ) (slot : ℕ)

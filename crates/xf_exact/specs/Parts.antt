@@ -1,4 +1,4 @@
--- The two parts of a policy list: the policies that are found by exact match, and the others.
+-- The part of a policy list that is found by exact match, and what any part makes of its chains.
 use Rattle.std.specs.Prelude.{◌≡◌, ℕ, Bool, List, Option}
 use Rattle.xf_types.specs.declared.network.Flow.{Flow}
 use Rattle.xf_types.specs.declared.network.Ptype.{Ptype}
@@ -7,8 +7,8 @@ use Rattle.xf_types.specs.ExactPart.{is_exact_at}
 use Rattle.xf_chain.specs.declared.family.Family.{Family}
 use Rattle.xf_chain.specs.Families.{chain_at, put_in, taken_out}
 use Rattle.xf_image.specs.declared.area.PolicyArea.{PolicyArea}
-use Rattle.xf_image.specs.ExactKeys.{lens_of, exact_key, other_key, flow_number}
-use Rattle.xf_image.specs.Layout.{exact_of, others_of}
+use Rattle.xf_image.specs.ExactKeys.{lens_of, exact_key, flow_number}
+use Rattle.xf_image.specs.Layout.{exact_of}
 use Rattle.xf_image.specs.Placing.{place_in, before_in}
 use Rattle.xf_image.specs.Readings.{hthresh4_in, hthresh6_in}
 use Rattle.xf_exact.specs.declared.hit.Hit.{Hit}
@@ -29,9 +29,6 @@ pub record Tells (a : PolicyArea) (image : List ℕ) (h4 h6 : ℕ × ℕ) : Type
 abbrev pub exact_key_in : PolicyArea → List ℕ → Policy → Option ℕ
 exact_key_in a image p = exact_key (hthresh4_in a image) (hthresh6_in a image) p
 
-abbrev pub other_key_in : PolicyArea → List ℕ → Policy → Option ℕ
-other_key_in a image p = other_key (hthresh4_in a image) (hthresh6_in a image) p
-
 abbrev pub flow_number_in : PolicyArea → List ℕ → Ptype → Flow → ℕ
 flow_number_in a image ptype flow = flow_number (hthresh4_in a image) (hthresh6_in a image) ptype flow
 
@@ -39,12 +36,9 @@ flow_number_in a image ptype flow = flow_number (hthresh4_in a image) (hthresh6_
 abbrev pub first_on : PolicyArea → List ℕ → Family → ℕ → Ptype → Flow → Option Hit
 first_on a image family number ptype flow = hit_at a image (found_on a image (Applies ptype flow) (chain_at family number))
 
--- the first of each part
+-- the first of the exact part
 abbrev pub exact_first : PolicyArea → List ℕ → Ptype → Flow → Option Hit
 exact_first a image ptype flow = first_on a image (exact_of a) (flow_number_in a image ptype flow) ptype flow
-
-abbrev pub other_first : PolicyArea → List ℕ → Ptype → Flow → Option Hit
-other_first a image ptype flow = first_on a image (others_of a) 0 ptype flow
 
 -- the words once a policy is put into the chain with a number, where there is one, at its place in the order
 abbrev pub with_slot : PolicyArea → List ℕ → Family → Option ℕ → ℕ → Policy → List ℕ

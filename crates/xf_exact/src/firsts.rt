@@ -15,7 +15,7 @@ use xf_image::PolicyArea;
 use xf_types::{Flow, Ptype};
 
 /// The first policy of a chain that applies to the flow and has this ptype.
-pub(crate) fn first_on<L: Load>(
+pub fn first_on<L: Load>(
     area: &PolicyArea,
     l: &mut L,
     family: &Family,

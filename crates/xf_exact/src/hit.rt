@@ -41,7 +41,7 @@ pub fn better(a: Option<Hit>, b: Option<Hit>) -> Option<Hit>
 }
 
 /// The hit in a slot, where there is one.
-pub(crate) fn hit_at<L: Load>(area: &PolicyArea, l: &mut L, slot: Option<u32>) -> Option<Hit>
+pub fn hit_at<L: Load>(area: &PolicyArea, l: &mut L, slot: Option<u32>) -> Option<Hit>
     requires fits { Fits area.now (L.size l.old) }
     requires slot { Below area.now.slots slot }
     ensures size { L.size l.new ≡ L.size l.old }

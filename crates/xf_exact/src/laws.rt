@@ -13,7 +13,7 @@ pub fn hits()
     ensures { HitLaws }
 {}
 
-/// Nothing is lost by asking the two parts.
+/// The words of a policy list tell its thresholds.
 pub fn parts()
     ensures { PartLaws }
 {}

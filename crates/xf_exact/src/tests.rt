@@ -1,4 +1,4 @@
-//! That policies come into both parts, are found there and go, on words in memory.
+//! That policies come into the part, are found there and go, on words in memory.
 ghost use Rattle.std.specs.Prelude.{◌≡◌, ◌<◌, ◌≤◌, true};
 ghost use Rattle.xf_image.specs.Layout.{Fits};
 
@@ -74,12 +74,11 @@ fn slot_of(hit: Option<Hit>) -> Option<u32> {
 }
 
 #[test]
-fn each_part_has_its_first(rt: HostRuntime) -> Result<(), Fail> {
+fn the_first_is_found(rt: HostRuntime) -> Result<(), Fail> {
     let area = PolicyArea { base: 3, slots: 4 };
     let mut cells = VecCells::new(rt.alloc(), 2600)?;
     assert!(rt; cells.size() == 2600);
     let exact = Exact { area };
-    let others = Others { area };
     let (newer, older, wide) = (policy(2, 10, 32), policy(1, 10, 32), policy(3, 5, 24));
     stand(&area, &mut cells, 0, &newer);
     stand(&area, &mut cells, 1, &older);
@@ -87,15 +86,12 @@ fn each_part_has_its_first(rt: HostRuntime) -> Result<(), Fail> {
     exact.insert(&mut cells, 0, &newer);
     exact.insert(&mut cells, 1, &older);
     exact.insert(&mut cells, 2, &wide);
-    others.insert(&mut cells, 2, &wide);
     let first = exact.first(&mut cells, &flow(), Ptype::Main);
-    let other = others.first(&mut cells, &flow(), Ptype::Main);
     assert_eq!(rt; slot_of(first), Some(1));
-    assert_eq!(rt; slot_of(other), Some(2));
+    let other = hit_at(&area, &mut cells, Some(2));
     assert_eq!(rt; slot_of(better(first, other)), Some(2));
     assert_eq!(rt; exact.first(&mut cells, &flow(), Ptype::Sub), None);
     exact.remove(&mut cells, 1, &older);
-    others.remove(&mut cells, 2, &wide);
     let left = exact.first(&mut cells, &flow(), Ptype::Main);
     assert_eq!(rt;
         left,
@@ -105,7 +101,8 @@ fn each_part_has_its_first(rt: HostRuntime) -> Result<(), Fail> {
             number: 2
         })
     );
-    assert_eq!(rt; others.first(&mut cells, &flow(), Ptype::Main), None);
+    exact.remove(&mut cells, 0, &newer);
+    assert_eq!(rt; exact.first(&mut cells, &flow(), Ptype::Main), None);
     Ok(())
 }
 

@@ -55,8 +55,8 @@ parts_added a image n s p slot r front back index_word next_index fits e below c
     let i2 : List ℕ = linked a i1 p slot in
     let i3 : List ℕ = filled a i2 slot r in
     let f1 : Frame a.base (a.base + 7) image i1 = counted_frame a image index_word r.number in
-    let f2 : Frame (a.base + 7) (a.base + 2058 + 5 * a.slots) i1 i2 = linked_frame a i1 n p slot fits places below in
-    let f3 : Frame (a.base + 2058 + 5 * a.slots) (end_of a) i2 i3 = filled_frame a i2 slot r below code in
+    let f2 : Frame (a.base + 7) (a.base + 2057 + 4 * a.slots) i1 i2 = linked_frame a i1 n p slot fits places below in
+    let f3 : Frame (a.base + 2057 + 4 * a.slots) (end_of a) i2 i3 = filled_frame a i2 slot r below code in
     let n1 : length i1 ≡ n = f1.size ∙ e in
     let n2 : length i2 ≡ n = f2.size ∙ n1 in
     let apart : Apart (slots_in old) = entries_apart a image h4 h6 old st.links in

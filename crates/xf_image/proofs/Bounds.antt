@@ -8,8 +8,8 @@ use Rattle.xf_chain.specs.Chains.{Below, place_of, first_in, next_in, slots_from
 use Rattle.xf_chain.specs.Families.{chain_at, IsOf, last_while, is_other}
 use Rattle.xf_chain.specs.Lists.{Within}
 use Rattle.xf_image.specs.declared.area.PolicyArea.{PolicyArea}
-use Rattle.xf_image.specs.Layout.{order_of, back_of, others_of, exact_of, indices_of}
-use Rattle.xf_image.specs.ExactKeys.{exact_key, other_key, only_without}
+use Rattle.xf_image.specs.Layout.{order_of, back_of, exact_of, indices_of}
+use Rattle.xf_image.specs.ExactKeys.{exact_key}
 use Rattle.xf_image.specs.Placing.{stays_before, following, place_in_order, place_in, before_in, row_of, places_for, places_of, ArePlaces}
 use Rattle.xf_image.proofs.ExactLaws.{key_below}
 
@@ -56,13 +56,6 @@ exact_of_some a (Some k) f = f k refl
 pub exact_is_of : (a : PolicyArea) (h4 h6 : ℕ × ℕ) (p : Policy) → IsOf (exact_of a) (exact_key h4 h6 p)
 exact_is_of a h4 h6 p = exact_of_some a (exact_key h4 h6 p) (λ k e. key_below h4 h6 p k e)
 
-others_of_only : (a : PolicyArea) (o : Option ℕ) → IsOf (others_of a) (only_without o)
-others_of_only a None = omega arith
-others_of_only a (Some k) = search rules
-
-pub other_is_of : (a : PolicyArea) (h4 h6 : ℕ × ℕ) (p : Policy) → IsOf (others_of a) (other_key h4 h6 p)
-other_is_of a h4 h6 p = others_of_only a (exact_key h4 h6 p)
-
 row_small : (n : ℕ) → n % 1024 < 1024
 row_small n = omega arith
 
@@ -70,8 +63,6 @@ pub places_for_are : (a : PolicyArea) (image : List ℕ) (h4 h6 : ℕ × ℕ) (r
 places_for_are a image h4 h6 r = record {
   order = find_below (stays_before a image r.spec.priority r.number) a.slots (slots_of (chain_at (back_of a) 0) image) (walk_within (chain_at (back_of a) 0) image);
   back = following_below (chain_at (order_of a) 0) image (place_in_order a image r);
-  other = other_is_of a h4 h6 r;
-  others = place_below a image r (others_of a) (other_key h4 h6 r);
   bucket = exact_is_of a h4 h6 r;
   exact = place_below a image r (exact_of a) (exact_key h4 h6 r);
   row = row_small r.index;
@@ -82,8 +73,6 @@ pub places_of_are : (a : PolicyArea) (image : List ℕ) (h4 h6 : ℕ × ℕ) (r 
 places_of_are a image h4 h6 r slot = record {
   order = following_below (chain_at (back_of a) 0) image (Some slot);
   back = following_below (chain_at (order_of a) 0) image (Some slot);
-  other = other_is_of a h4 h6 r;
-  others = before_below image slot (others_of a) (other_key h4 h6 r);
   bucket = exact_is_of a h4 h6 r;
   exact = before_below image slot (exact_of a) (exact_key h4 h6 r);
   row = row_small r.index;

@@ -24,9 +24,9 @@ abbrev pub filled : PolicyArea → List ℕ → ℕ → Policy → List ℕ
 filled a i slot r = stored (ranked a i slot r) (record_place a slot) (policy_words r)
 
 pub filled_frame : (a : PolicyArea) (i : List ℕ) (slot : ℕ) (r : Policy) → slot < a.slots → PolicyFits r
-    → Frame (a.base + 2058 + 5 * a.slots) (end_of a) i (filled a i slot r)
+    → Frame (a.base + 2057 + 4 * a.slots) (end_of a) i (filled a i slot r)
 filled_frame a i slot r below fits =
-    let first : ℕ = a.base + 2058 + 5 * a.slots in
+    let first : ℕ = a.base + 2057 + 4 * a.slots in
     let last : ℕ = end_of a in
     let i1 : List ℕ = slice_set i (priority_place a slot) r.spec.priority in
     let i2 : List ℕ = slice_set i1 (number_place a slot) r.number in
@@ -65,7 +65,7 @@ columns_filled a i n slot r front back fits e below code miss within s =
           miss within s.numbers;
       records = column_put (λ x. record_at a i x) (λ x. record_at a i3 x) (λ p. Some p) a.slots slot r front back
           (λ x w o. policy_frame i i3 (record_place a x) (λ q l m.
-          outside rp (rp + 101) i2 i3 q (nat_lt q rp) refl s3 (λ k. other_record (a.base + 2058 + 7 * a.slots) x slot q o l m k)
+          outside rp (rp + 101) i2 i3 q (nat_lt q rp) refl s3 (λ k. other_record (a.base + 2057 + 6 * a.slots) x slot q o l m k)
           ∙ (s2.above q (omega (arith, l, below)) ∙ s1.above q (omega (arith, l, below)))))
           (policy_put i2 rp r code (omega (arith, n2, words, below)))
           miss within s.records;

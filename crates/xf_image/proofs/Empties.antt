@@ -7,8 +7,8 @@ use Rattle.xf_chain.specs.declared.family.Family.{Family}
 use Rattle.xf_chain.specs.Chains.{slot_of}
 use Rattle.xf_index.specs.Indexes.{Indexed}
 use Rattle.xf_image.specs.declared.area.PolicyArea.{PolicyArea}
-use Rattle.xf_image.specs.Layout.{order_of, back_of, others_of, exact_of, indices_of, next_index_place, next_number_place, thresholds_place, count_place}
-use Rattle.xf_image.specs.ExactKeys.{exact_key, other_key}
+use Rattle.xf_image.specs.Layout.{order_of, back_of, exact_of, indices_of, next_index_place, next_number_place, thresholds_place, count_place}
+use Rattle.xf_image.specs.ExactKeys.{exact_key}
 use Rattle.xf_image.specs.Policies.{everyone, index_key, PoliciesStand}
 
 zero_at : (n q : ℕ) → slice_index (zeros n) q ≡ 0
@@ -16,7 +16,8 @@ zero_at zero q = refl
 zero_at (suc n) zero = refl
 zero_at (suc n) (suc q) = zero_at n q
 
-no_chain : (b : Family) (n : ℕ) (key : Policy → Option ℕ) → Indexed b (zeros n) key []
+-- no chain passes a slot in words of zeros
+pub no_chain : (b : Family) (n : ℕ) (key : Policy → Option ℕ) → Indexed b (zeros n) key []
 no_chain b n key = record {
   chains = λ number h. record {
     path = ap (λ w. slot_of b.slots w) (zero_at n (b.heads + number));
@@ -31,7 +32,6 @@ zeros_stand a n max_states = record {
   links = record {
     order = no_chain (order_of a) n everyone;
     back = no_chain (back_of a) n everyone;
-    others = no_chain (others_of a) n (other_key (32, 32) (128, 128));
     exact = no_chain (exact_of a) n (exact_key (32, 32) (128, 128));
     indices = no_chain (indices_of a) n index_key;
   };

@@ -1,8 +1,7 @@
 -- What applies to a flow has the flow's own chain, where the exact part takes it.
-use Rattle.std.proofs.Common.{◌≡◌, ℕ, Decides, ◌<◌, ◌≤◌, ◌==◌, Bool, true, false, cond, ◌&&◌, ◌||◌, List, Option, None, Some, refl, ap, sym, ◌∙◌, arith, nat_le, if◌then◌else◌}
+use Rattle.std.proofs.Common.{◌≡◌, ℕ, Decides, ◌<◌, ◌≤◌, ◌==◌, Bool, true, false, cond, ◌&&◌, ◌||◌, List, None, Some, refl, ap, sym, ◌∙◌, arith, nat_le, if◌then◌else◌}
 use Rattle.std.proofs.lemmas.Bool.{leb-true}
 use Rattle.std.proofs.lemmas.Bool.Decides.{Decides-and, Decides-eqb, nat_tests}
-use Rattle.xf_index.specs.Indexes.{is_number}
 use Rattle.xf_types.specs.declared.network.Addr.{Addr}
 use Rattle.xf_types.specs.declared.network.Dir.{Dir}
 use Rattle.xf_types.specs.declared.network.Dir.TheVariants.{In, Out, Fwd}
@@ -17,7 +16,7 @@ use Rattle.xf_types.specs.PolicyList.{AreSame, applies, has_mark, is_under}
 use Rattle.xf_types.specs.Same.{same_dir, same_ptype}
 use Rattle.xf_types.specs.Selection.{in_prefix, matches, matches_port}
 use Rattle.xf_types.proofs.Decisions.{Decides-same_dir, Decides-same_ptype, Decides-is_same}
-use Rattle.xf_image.specs.ExactKeys.{lens_of, dst_len, src_len, exact_words, words_number, exact_number, is_exact_for, spec_key, exact_key, only_without, other_key, flow_number}
+use Rattle.xf_image.specs.ExactKeys.{lens_of, dst_len, src_len, exact_words, words_number, exact_number, is_exact_for, spec_key, exact_key, flow_number}
 use Rattle.xf_image.proofs.CutLaws.{cut_same}
 
 -- an address is in a prefix by family and first bits
@@ -51,7 +50,7 @@ fits lens Fwd sel e =
     (both.0, both.1)
 
 -- What a policy and a flow have in common, where the one applies to the other.
-record Agree (asked : Ptype) (flow : Flow) (p : Policy) : Type 0 where
+pub record Agree (asked : Ptype) (flow : Flow) (p : Policy) : Type 0 where
   pub dir : p.spec.dir ≡ flow.dir
   pub ptype : p.spec.ptype ≡ asked
   pub if_id : p.spec.if_id ≡ flow.if_id
@@ -61,7 +60,7 @@ record Agree (asked : Ptype) (flow : Flow) (p : Policy) : Type 0 where
 itself : (b : Bool) → Decides b (b ≡ true)
 itself b = (λ h. h, λ h. h)
 
-agree : (ptype : Ptype) (flow : Flow) (p : Policy) → applies ptype flow p ≡ true → Agree ptype flow p
+pub agree : (ptype : Ptype) (flow : Flow) (p : Policy) → applies ptype flow p ≡ true → Agree ptype flow p
 agree ptype flow p e =
     let d = same_dir p.spec.dir flow.dir in
     let t = same_ptype p.spec.ptype ptype in
@@ -126,19 +125,6 @@ flow_key h4 h6 ptype flow p k e h =
     let lens : ℕ × ℕ = lens_of h4 h6 p.spec.sel.src.addr in
     key_by lens ptype flow p (is_exact_for lens p.spec.dir p.spec.sel) k a refl h
     ∙ ap (λ l. exact_number l ptype flow.dir flow.if_id flow.dst flow.src) (one_lens h4 h6 flow.src p.spec.sel.src a.src)
-
-covered : (own : Option ℕ) (n : ℕ) → ((k : ℕ) → own ≡ Some k → k ≡ n) → (is_number n own || is_number 0 (only_without own)) ≡ true
-covered None n f = refl
-covered (Some k) n f = ap (λ m. (k == m) || false) (sym (f k refl)) ∙ equal k
-  where
-    equal : (m : ℕ) → ((m == m) || false) ≡ true
-    equal m = grind (arith, nat_tests)
-
--- what applies to a flow stands in the flow's chain or among the others
-pub flow_covers : (h4 h6 : ℕ × ℕ) (ptype : Ptype) (flow : Flow) (p : Policy) → applies ptype flow p ≡ true
-    → (is_number (flow_number h4 h6 ptype flow) (exact_key h4 h6 p) || is_number 0 (other_key h4 h6 p)) ≡ true
-flow_covers h4 h6 ptype flow p e =
-    covered (exact_key h4 h6 p) (flow_number h4 h6 ptype flow) (λ k h. flow_key h4 h6 ptype flow p k e h)
 
 -- no chain's number is past the last one
 pub words_below : (words : List ℕ) → words_number words < 1024

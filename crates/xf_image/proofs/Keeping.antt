@@ -11,11 +11,11 @@ use Rattle.xf_index.proofs.Stays.{indexed_apart}
 use Rattle.xf_index.specs.Indexes.{slots_in}
 use Rattle.xf_records.proofs.PolicyLaws.{policy_frame}
 use Rattle.xf_image.specs.declared.area.PolicyArea.{PolicyArea}
-use Rattle.xf_image.specs.Layout.{Fits, end_of, order_of, back_of, others_of, exact_of, indices_of, next_index_place, next_number_place, thresholds_place, count_place, priority_place, number_place, record_place, record_at}
-use Rattle.xf_image.specs.ExactKeys.{exact_key, other_key}
+use Rattle.xf_image.specs.Layout.{Fits, end_of, order_of, back_of, exact_of, indices_of, next_index_place, next_number_place, thresholds_place, count_place, priority_place, number_place, record_place, record_at}
+use Rattle.xf_image.specs.ExactKeys.{exact_key}
 use Rattle.xf_image.specs.Policies.{everyone, index_key, LinksStand, ColumnsStand, CountersStand, PoliciesStand}
 use Rattle.xf_image.specs.Entries.{AlikeInPolicies}
-use Rattle.xf_image.proofs.Layouts.{order_lays, back_lays, others_lays, exact_lays, indices_lays}
+use Rattle.xf_image.proofs.Layouts.{order_lays, back_lays, exact_lays, indices_lays}
 
 -- the slots of all entries differ, and are slots of the area
 
@@ -33,18 +33,17 @@ slots_chain a image h4 h6 es s =
     subst (λ (xs : List ℕ). IsChain (chain_at (order_of a) 0) image xs) (picked_slots everyone es (λ p. refl)) (s.order.chains 0 (omega arith))
 
 pub links_kept : (a : PolicyArea) (i j : List ℕ) (n : ℕ) (h4 h6 : ℕ × ℕ) (es : List (ℕ × Policy)) → Fits a n
-    → ((q : ℕ) → a.base + 7 ≤ q → q < a.base + 2058 + 5 * a.slots → slice_index j q ≡ slice_index i q)
+    → ((q : ℕ) → a.base + 7 ≤ q → q < a.base + 2057 + 4 * a.slots → slice_index j q ≡ slice_index i q)
     → LinksStand a i h4 h6 es → LinksStand a j h4 h6 es
 links_kept a i j n h4 h6 es fits f s = record {
   order = indexed_apart (order_of a) i j n everyone es (order_lays a n fits) (λ q h l. f q h (omega (arith, l))) s.order;
   back = indexed_apart (back_of a) i j n everyone (reverse es) (back_lays a n fits) (λ q h l. f q (omega (arith, h)) (omega (arith, l))) s.back;
-  others = indexed_apart (others_of a) i j n (other_key h4 h6) es (others_lays a n fits) (λ q h l. f q (omega (arith, h)) (omega (arith, l))) s.others;
   exact = indexed_apart (exact_of a) i j n (exact_key h4 h6) es (exact_lays a n fits) (λ q h l. f q (omega (arith, h)) (omega (arith, l))) s.exact;
   indices = indexed_apart (indices_of a) i j n index_key es (indices_lays a n fits) (λ q h l. f q (omega (arith, h)) (omega (arith, l))) s.indices;
 }
 
 pub columns_kept : (a : PolicyArea) (i j : List ℕ) (es : List (ℕ × Policy)) → Within a.slots (slots_in es)
-    → ((q : ℕ) → a.base + 2058 + 5 * a.slots ≤ q → q < end_of a → slice_index j q ≡ slice_index i q)
+    → ((q : ℕ) → a.base + 2057 + 4 * a.slots ≤ q → q < end_of a → slice_index j q ≡ slice_index i q)
     → ColumnsStand a i es → ColumnsStand a j es
 columns_kept a i j es within f s = record {
   priorities = holds_kept (λ x. slice_index i (priority_place a x)) (λ x. slice_index j (priority_place a x)) (λ p. p.spec.priority) a.slots es

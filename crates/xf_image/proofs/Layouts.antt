@@ -3,16 +3,13 @@ use Rattle.std.proofs.Common.{ℕ, arith}
 use Rattle.xf_chain.specs.Columns.{Spans}
 use Rattle.xf_chain.specs.Families.{Lays}
 use Rattle.xf_image.specs.declared.area.PolicyArea.{PolicyArea}
-use Rattle.xf_image.specs.Layout.{Fits, order_of, back_of, others_of, exact_of, indices_of, priorities_of, numbers_of}
+use Rattle.xf_image.specs.Layout.{Fits, order_of, back_of, exact_of, indices_of, priorities_of, numbers_of}
 
 pub order_lays : (a : PolicyArea) (size : ℕ) → Fits a size → Lays (order_of a) size
 order_lays a size f = let w = f.words in record { heads = omega arith; links = omega (arith, w); fits = f.fits }
 
 pub back_lays : (a : PolicyArea) (size : ℕ) → Fits a size → Lays (back_of a) size
 back_lays a size f = let w = f.words in record { heads = omega arith; links = omega (arith, w); fits = f.fits }
-
-pub others_lays : (a : PolicyArea) (size : ℕ) → Fits a size → Lays (others_of a) size
-others_lays a size f = let w = f.words in record { heads = omega arith; links = omega (arith, w); fits = f.fits }
 
 pub exact_lays : (a : PolicyArea) (size : ℕ) → Fits a size → Lays (exact_of a) size
 exact_lays a size f = let w = f.words in record { heads = omega arith; links = omega (arith, w); fits = f.fits }

@@ -13,8 +13,8 @@ use Rattle.xf_index.proofs.Picks.{picked_slots}
 use Rattle.xf_index.proofs.Neighbours.{all_following, all_next, all_before}
 use Rattle.xf_index.proofs.Walked.{last_walked, before_walked, all_found_back}
 use Rattle.xf_image.specs.declared.area.PolicyArea.{PolicyArea}
-use Rattle.xf_image.specs.Layout.{order_of, back_of, others_of, exact_of, indices_of, priority_place, number_place}
-use Rattle.xf_image.specs.ExactKeys.{exact_key, other_key}
+use Rattle.xf_image.specs.Layout.{order_of, back_of, exact_of, indices_of, priority_place, number_place}
+use Rattle.xf_image.specs.ExactKeys.{exact_key}
 use Rattle.xf_image.specs.Policies.{everyone, index_key, LinksStand, ColumnsStand}
 use Rattle.xf_image.specs.Placing.{comes, stays_before, following, place_in_order, place_in, before_in, row_of, places_for, places_of, ArePlaces}
 use Rattle.xf_image.proofs.Linking.{PlacesAre}
@@ -68,8 +68,6 @@ places_for_is a image h4 h6 r front back places s columns x y =
       back_ = following_is (chain_at (order_of a) 0) image (place_in_order a image r)
           ∙ (ap (λ (k : Option ℕ). slot_of a.slots (slice_index image (from_of (chain_at (order_of a) 0) k))) o
           ∙ (all_following (order_of a) image everyone front back (λ p. refl) (omega arith) s.order ∙ first_slot back));
-      other = refl;
-      others = place_found a image (others_of a) (other_key h4 h6) r front back (other_key h4 h6 r) places.other s.others h x y;
       bucket = refl;
       exact = place_found a image (exact_of a) (exact_key h4 h6) r front back (exact_key h4 h6 r) places.bucket s.exact h x y;
       row = refl;
@@ -83,8 +81,6 @@ pub places_of_is : (a : PolicyArea) (image : List ℕ) (h4 h6 : ℕ × ℕ) (slo
 places_of_is a image h4 h6 slot r front back places s = record {
   order = all_before (back_of a) image everyone front back slot r (λ p. refl) (omega arith) s.back ∙ last_slot front;
   back_ = all_next (order_of a) image everyone front back slot r (λ p. refl) (omega arith) s.order ∙ first_slot back;
-  other = refl;
-  others = before_found image (others_of a) (other_key h4 h6) slot r front back (other_key h4 h6 r) places.other refl s.others;
   bucket = refl;
   exact = before_found image (exact_of a) (exact_key h4 h6) slot r front back (exact_key h4 h6 r) places.bucket refl s.exact;
   row = refl;

@@ -9,16 +9,15 @@ use Rattle.xf_chain.specs.Lists.{Apart, Within}
 use Rattle.xf_index.specs.Indexes.{slots_in, Indexed}
 use Rattle.xf_index.proofs.Alls.{all_walk, all_within}
 use Rattle.xf_index.proofs.Rebuilds.{indexed_empty}
-use Rattle.xf_index.proofs.Stays.{indexed_apart}
 use Rattle.xf_image.specs.declared.area.PolicyArea.{PolicyArea}
-use Rattle.xf_image.specs.Layout.{Fits, end_of, back_of, others_of, exact_of, next_index_place, next_number_place, thresholds_place, count_place}
-use Rattle.xf_image.specs.ExactKeys.{exact_key, other_key}
+use Rattle.xf_image.specs.Layout.{Fits, end_of, back_of, exact_of, next_index_place, next_number_place, thresholds_place, count_place}
+use Rattle.xf_image.specs.ExactKeys.{exact_key}
 use Rattle.xf_image.specs.Policies.{everyone, LinksStand, ColumnsStand, CountersStand, PoliciesStand}
 use Rattle.xf_image.specs.Entries.{with_thresholds}
 use Rattle.xf_image.specs.Writes.{thresholds_put, cleared, moved_all, from_last, set_words}
 use Rattle.xf_image.specs.Frames.{Frame}
-use Rattle.xf_image.proofs.Layouts.{others_lays, exact_lays}
-use Rattle.xf_image.proofs.Written.{both, outside, one_word, emptied_frame}
+use Rattle.xf_image.proofs.Layouts.{exact_lays}
+use Rattle.xf_image.proofs.Written.{both, outside, wider, one_word, emptied_frame}
 use Rattle.xf_image.proofs.Bounds.{walk_within}
 use Rattle.xf_image.proofs.Keeping.{entries_apart, entries_within, counters_kept}
 use Rattle.xf_image.proofs.Moving.{Half, half_rest, all_moved, moved_all_frame}
@@ -79,45 +78,35 @@ counters_put a i n s h4 h6 fits e t c =
 
 -- the words between the header's thresholds and the chains by index are written alone, and no link of the chains of all
 cleared_same : (a : PolicyArea) (i : List ℕ) (h4 h6 : ℕ × ℕ) (q : ℕ) → a.base + 7 ≤ q
-    → (a.base + 9 + 2 * a.slots ≤ q → a.base + 1034 + 4 * a.slots ≤ q)
+    → (a.base + 9 + 2 * a.slots ≤ q → a.base + 1033 + 3 * a.slots ≤ q)
     → slice_index (cleared a i h4 h6) q ≡ slice_index i q
 cleared_same a i h4 h6 q low o =
     let i1 : List ℕ = thresholds_put a i h4 h6 in
-    let i2 : List ℕ = emptied (a.base + 9 + 2 * a.slots) 1 i1 in
-    let i3 : List ℕ = emptied (a.base + 10 + 3 * a.slots) 1024 i2 in
-    let f : Frame (a.base + 9 + 2 * a.slots) (a.base + 1034 + 4 * a.slots) i1 i3 =
-    both (a.base + 9 + 2 * a.slots) (a.base + 1034 + 4 * a.slots) _ _ _ _ i1 i2 i3 (emptied_frame (a.base + 9 + 2 * a.slots) 1 i1) (emptied_frame (a.base + 10 + 3 * a.slots) 1024 i2)
-    (omega arith) (omega arith) (omega arith) (omega arith) in
-    outside (a.base + 9 + 2 * a.slots) (a.base + 1034 + 4 * a.slots) i1 i3 q (nat_lt q (a.base + 9 + 2 * a.slots)) refl f o
+    let i2 : List ℕ = emptied (a.base + 9 + 2 * a.slots) 1024 i1 in
+    let f : Frame (a.base + 9 + 2 * a.slots) (a.base + 1033 + 3 * a.slots) i1 i2 =
+    wider (a.base + 9 + 2 * a.slots) (a.base + 1033 + 3 * a.slots) _ _ i1 i2 (emptied_frame (a.base + 9 + 2 * a.slots) 1024 i1) (omega arith) (omega arith) in
+    outside (a.base + 9 + 2 * a.slots) (a.base + 1033 + 3 * a.slots) i1 i2 q (nat_lt q (a.base + 9 + 2 * a.slots)) refl f o
     ∙ (put_frame4 a i h4 h6).above q (omega (arith, low))
 
 cleared_frame : (a : PolicyArea) (i : List ℕ) (h4 h6 : ℕ × ℕ) → Frame a.base (end_of a) i (cleared a i h4 h6)
 cleared_frame a i h4 h6 =
     let i1 : List ℕ = thresholds_put a i h4 h6 in
-    let i2 : List ℕ = emptied (a.base + 9 + 2 * a.slots) 1 i1 in
-    let i3 : List ℕ = emptied (a.base + 10 + 3 * a.slots) 1024 i2 in
-    let w2 : Frame a.base (end_of a) i i2 = both a.base (end_of a) _ _ _ _ i i1 i2 (put_frame4 a i h4 h6) (emptied_frame (a.base + 9 + 2 * a.slots) 1 i1)
-    (omega arith) (omega arith) (omega arith) (omega arith) in
-    both a.base (end_of a) _ _ _ _ i i2 i3 w2 (emptied_frame (a.base + 10 + 3 * a.slots) 1024 i2) (omega arith) (omega arith) (omega arith) (omega arith)
+    let i2 : List ℕ = emptied (a.base + 9 + 2 * a.slots) 1024 i1 in
+    both a.base (end_of a) _ _ _ _ i i1 i2 (put_frame4 a i h4 h6) (emptied_frame (a.base + 9 + 2 * a.slots) 1024 i1)
+    (omega arith) (omega arith) (omega arith) (omega arith)
 
 cleared_half : (a : PolicyArea) (i : List ℕ) (n : ℕ) (was4 was6 h4 h6 : ℕ × ℕ) (es : List (ℕ × Policy)) → Fits a n → length i ≡ n
     → LinksStand a i was4 was6 es → ColumnsStand a i es → Half a (cleared a i h4 h6) h4 h6 [] es
 cleared_half a i n was4 was6 h4 h6 es fits e links columns =
     let i1 : List ℕ = thresholds_put a i h4 h6 in
-    let i2 : List ℕ = emptied (a.base + 9 + 2 * a.slots) 1 i1 in
-    let i3 : List ℕ = emptied (a.base + 10 + 3 * a.slots) 1024 i2 in
+    let i2 : List ℕ = emptied (a.base + 9 + 2 * a.slots) 1024 i1 in
     let n1 : length i1 ≡ n = (put_frame4 a i h4 h6).size ∙ e in
-    let n2 : length i2 ≡ n = (emptied_frame (a.base + 9 + 2 * a.slots) 1 i1).size ∙ n1 in
-    let f3 : Frame (a.base + 10 + 3 * a.slots) (a.base + 10 + 3 * a.slots + 1024) i2 i3 = emptied_frame (a.base + 10 + 3 * a.slots) 1024 i2 in
-    let others : Indexed (others_of a) i3 (other_key h4 h6) [] =
-    indexed_apart (others_of a) i2 i3 n (other_key h4 h6) [] (others_lays a n fits) (λ q l m. f3.below q (omega (arith, m)))
-    (indexed_empty (others_of a) i1 (other_key h4 h6) (others_lays a (length i1) (subst (λ (k : ℕ). Fits a k) (sym n1) fits))) in
-    let exact : Indexed (exact_of a) i3 (exact_key h4 h6) [] =
-    indexed_empty (exact_of a) i2 (exact_key h4 h6) (exact_lays a (length i2) (subst (λ (k : ℕ). Fits a k) (sym n2) fits)) in
+    let f2 : Frame (a.base + 9 + 2 * a.slots) (a.base + 9 + 2 * a.slots + 1024) i1 i2 = emptied_frame (a.base + 9 + 2 * a.slots) 1024 i1 in
+    let exact : Indexed (exact_of a) i2 (exact_key h4 h6) [] =
+    indexed_empty (exact_of a) i1 (exact_key h4 h6) (exact_lays a (length i1) (subst (λ (k : ℕ). Fits a k) (sym n1) fits)) in
     let start : Half a i was4 was6 es es = record {
       order = links.order;
       back = links.back;
-      others = links.others;
       exact = links.exact;
       indices = links.indices;
       columns = columns;
@@ -125,7 +114,7 @@ cleared_half a i n was4 was6 h4 h6 es fits e links columns =
       long = e;
       fits = fits;
     } in
-    half_rest a i i3 was4 was6 h4 h6 es [] es (f3.size ∙ (n2 ∙ sym e)) (entries_within a i was4 was6 es links) (λ q l o. cleared_same a i h4 h6 q l o) start others exact
+    half_rest a i i2 was4 was6 h4 h6 es [] es (f2.size ∙ (n1 ∙ sym e)) (entries_within a i was4 was6 es links) (λ q l o. cleared_same a i h4 h6 q l o) start exact
 
 -- the chain from the last one back is walked in the words with empty chains
 walked : (a : PolicyArea) (image : List ℕ) (h4 h6 : ℕ × ℕ) (done es : List (ℕ × Policy)) → Half a image h4 h6 done es
@@ -154,16 +143,15 @@ stands_set a image n s entries h4 h6 fits e t st =
     let h : Half a words h4 h6 entries entries = all_moved a h4 h6 base (reverse entries) [] entries turned within apart h0 in
     let back_within : Within a.slots (slots_in (reverse entries)) =
     all_within (back_of a) base everyone (reverse entries) (λ p. refl) (omega arith) h0.back in
-    let f : Frame (a.base + 9 + 2 * a.slots) (a.base + 1034 + 4 * a.slots) base words =
+    let f : Frame (a.base + 9 + 2 * a.slots) (a.base + 1033 + 3 * a.slots) base words =
     moved_all_frame a h4 h6 base n (slots_in (reverse entries)) fits back_within in
     let i1 : List ℕ = thresholds_put a image h4 h6 in
-    let i2 : List ℕ = emptied (a.base + 9 + 2 * a.slots) 1 i1 in
     let low : (q : ℕ) → q < a.base + 7 → slice_index words q ≡ slice_index i1 q =
-    λ q m. f.below q (omega (arith, m)) ∙ ((emptied_frame (a.base + 10 + 3 * a.slots) 1024 i2).below q (omega (arith, m)) ∙ (emptied_frame (a.base + 9 + 2 * a.slots) 1 i1).below q (omega (arith, m))) in
+    λ q m. f.below q (omega (arith, m)) ∙ (emptied_frame (a.base + 9 + 2 * a.slots) 1024 i1).below q (omega (arith, m)) in
     let k : CountersStand a i1 (with_thresholds s h4 h6) = counters_put a image n s h4 h6 fits e t st.counters in
     let new : PoliciesStand a words (with_thresholds s h4 h6) entries = record {
       listed = st.listed;
-      links = record { order = h.order; back = h.back; others = h.others; exact = h.exact; indices = h.indices };
+      links = record { order = h.order; back = h.back; exact = h.exact; indices = h.indices };
       columns = h.columns;
       counters = counters_kept a i1 words (with_thresholds s h4 h6) (λ q l m. low q m) k;
       room = st.room;

@@ -10,8 +10,8 @@ use Rattle.xf_index.specs.Indexes.{slots_in, records_in, Indexed}
 use Rattle.xf_records.specs.Policies.{warned}
 use Rattle.xf_records.proofs.PolicyLaws.{policy_frame, policy_warned}
 use Rattle.xf_image.specs.declared.area.PolicyArea.{PolicyArea}
-use Rattle.xf_image.specs.Layout.{Fits, end_of, order_of, back_of, others_of, exact_of, indices_of, priority_place, number_place, record_place, record_at}
-use Rattle.xf_image.specs.ExactKeys.{exact_key, other_key}
+use Rattle.xf_image.specs.Layout.{Fits, end_of, order_of, back_of, exact_of, indices_of, priority_place, number_place, record_place, record_at}
+use Rattle.xf_image.specs.ExactKeys.{exact_key}
 use Rattle.xf_image.specs.Policies.{everyone, index_key, LinksStand, ColumnsStand, CountersStand, PoliciesStand}
 use Rattle.xf_image.specs.Entries.{IsEntry, slot_warned, with_policies}
 use Rattle.xf_image.specs.Writes.{warned_words}
@@ -36,7 +36,6 @@ links_warned a i h4 h6 slot r front back s = record {
       subst (λ (es : List (ℕ × Policy)). Indexed (back_of a) i everyone es) (sym (reverse_within front back (slot, warned r)))
       (indexed_changed (back_of a) i everyone (reverse back) (reverse front) slot r (warned r) refl
       (subst (λ (es : List (ℕ × Policy)). Indexed (back_of a) i everyone es) (reverse_within front back (slot, r)) s.back));
-  others = indexed_changed (others_of a) i (other_key h4 h6) front back slot r (warned r) refl s.others;
   exact = indexed_changed (exact_of a) i (exact_key h4 h6) front back slot r (warned r) refl s.exact;
   indices = indexed_changed (indices_of a) i index_key front back slot r (warned r) refl s.indices;
 }
@@ -49,7 +48,7 @@ columns_warned a i n slot r front back fits e below miss within s =
     let j : List ℕ = warned_words a i slot in
     let at : ℕ = record_place a slot + 21 in
     let f : Frame at (at + 1) i j = one_word i at 1 in
-    let low : (q : ℕ) → q < a.base + 2058 + 7 * a.slots → slice_index j q ≡ slice_index i q = λ q h. f.below q (omega (arith, h)) in
+    let low : (q : ℕ) → q < a.base + 2057 + 6 * a.slots → slice_index j q ≡ slice_index i q = λ q h. f.below q (omega (arith, h)) in
     record {
       priorities = column_put (λ x. slice_index i (priority_place a x)) (λ x. slice_index j (priority_place a x)) (λ p. p.spec.priority) a.slots slot (warned r) front back
           (λ x w o. low (priority_place a x) (omega (arith, w)))
@@ -62,7 +61,7 @@ columns_warned a i n slot r front back fits e below miss within s =
       records = column_put (λ x. record_at a i x) (λ x. record_at a j x) (λ p. Some p) a.slots slot (warned r) front back
           (λ x w o. policy_frame i j (record_place a x) (λ q l m.
           outside at (at + 1) i j q (nat_lt q at) refl f (λ k.
-          let far : record_place a slot + 101 ≤ q = other_record (a.base + 2058 + 7 * a.slots) x slot q o l m (omega (arith, k)) in omega (arith, far))))
+          let far : record_place a slot + 101 ≤ q = other_record (a.base + 2057 + 6 * a.slots) x slot q o l m (omega (arith, k)) in omega (arith, far))))
           (policy_warned i (record_place a slot) r (omega (arith, e, words, below)) (holds_at (λ x. record_at a i x) (λ p. Some p) slot r front back s.records))
           miss within (holds_taken (λ x. record_at a i x) (λ p. Some p) slot r front back s.records);
     }

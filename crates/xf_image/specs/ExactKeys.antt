@@ -61,15 +61,6 @@ spec_key h4 h6 dir ptype if_id sel =
 abbrev pub exact_key : ℕ × ℕ → ℕ × ℕ → Policy → Option ℕ
 exact_key h4 h6 p = spec_key h4 h6 p.spec.dir p.spec.ptype p.spec.if_id p.spec.sel
 
--- the one chain of all others
-abbrev pub only_without : Option ℕ → Option ℕ
-only_without None = Some 0
-only_without (Some number) = None
-
--- the chain of the policies that the exact part doesn't take
-abbrev pub other_key : ℕ × ℕ → ℕ × ℕ → Policy → Option ℕ
-other_key h4 h6 p = only_without (exact_key h4 h6 p)
-
 -- the chain of the exact part in which those policies of this ptype stand that apply to the flow
 abbrev pub flow_number : ℕ × ℕ → ℕ × ℕ → Ptype → Flow → ℕ
 flow_number h4 h6 ptype flow =

@@ -1,5 +1,5 @@
 -- Which chain of the exact part a policy stands in.
-use Rattle.std.specs.Prelude.{◌≡◌, ℕ, ◌<◌, ◌||◌, true, if◌then◌else◌, None, Some}
+use Rattle.std.specs.Prelude.{◌≡◌, ℕ, ◌<◌, true, if◌then◌else◌, None, Some}
 use Rattle.xf_types.specs.declared.network.Dir.{Dir}
 use Rattle.xf_types.specs.declared.network.Flow.{Flow}
 use Rattle.xf_types.specs.declared.network.Mark.{Mark}
@@ -9,8 +9,7 @@ use Rattle.xf_types.specs.declared.policy.Policy.{Policy}
 use Rattle.xf_types.specs.ExactPart.{is_exact}
 use Rattle.xf_types.specs.Machine.{Shown}
 use Rattle.xf_types.specs.PolicyList.{applies, is_under}
-use Rattle.xf_index.specs.Indexes.{is_number}
-use Rattle.xf_image.specs.ExactKeys.{lens_of, exact_number, spec_key, exact_key, other_key, flow_number}
+use Rattle.xf_image.specs.ExactKeys.{lens_of, exact_number, spec_key, exact_key, flow_number}
 
 pub record KeyLaws : Type 0 where
   -- it has one where it is found by exact match under the thresholds, and else none
@@ -22,9 +21,6 @@ pub record KeyLaws : Type 0 where
   -- what applies to a flow has the flow's, where it has one
   pub flow : (h4 h6 : ℕ × ℕ) (ptype : Ptype) (flow : Flow) (p : Policy) (k : ℕ) → applies ptype flow p ≡ true
       → exact_key h4 h6 p ≡ Some k → k ≡ flow_number h4 h6 ptype flow
-  -- so it stands there or among the others
-  pub covers : (h4 h6 : ℕ × ℕ) (ptype : Ptype) (flow : Flow) (p : Policy) → applies ptype flow p ≡ true
-      → (is_number (flow_number h4 h6 ptype flow) (exact_key h4 h6 p) || is_number 0 (other_key h4 h6 p)) ≡ true
   -- what is listed under a selector has the selector's
   pub under : (h4 h6 : ℕ × ℕ) (dir : Dir) (ptype : Ptype) (sel : Selector) (mark : Mark) (if_id : ℕ) (p : Policy)
       → is_under dir ptype sel mark if_id p.spec ≡ true → exact_key h4 h6 p ≡ spec_key h4 h6 dir ptype if_id sel

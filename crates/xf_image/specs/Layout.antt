@@ -4,8 +4,7 @@
 --                IPv4 and then of IPv6, of the local prefix and then of the remote one; how many policies are listed
 --   1 + n        a chain of all, in the order of the list
 --   1 + n        a chain of all, the last first
---   1 + n        a chain of those that aren't found by exact match
---   1,024 + n    chains of those that are, by their hash
+--   1,024 + n    chains of those that are found by exact match, by their hash
 --   1,024 + n    chains of all, by their index
 --   n            the priorities
 --   n            the numbers
@@ -44,25 +43,21 @@ order_of a = record { heads = a.base + 7; count = 1; links = a.base + 8; slots =
 abbrev pub back_of : PolicyArea → Family
 back_of a = record { heads = a.base + 8 + a.slots; count = 1; links = a.base + 9 + a.slots; slots = a.slots }
 
--- the chain of those that aren't found by exact match
-abbrev pub others_of : PolicyArea → Family
-others_of a = record { heads = a.base + 9 + 2 * a.slots; count = 1; links = a.base + 10 + 2 * a.slots; slots = a.slots }
-
--- the chains of those that are, by their hash
+-- the chains of those that are found by exact match, by their hash
 abbrev pub exact_of : PolicyArea → Family
-exact_of a = record { heads = a.base + 10 + 3 * a.slots; count = 1024; links = a.base + 1034 + 3 * a.slots; slots = a.slots }
+exact_of a = record { heads = a.base + 9 + 2 * a.slots; count = 1024; links = a.base + 1033 + 2 * a.slots; slots = a.slots }
 
 -- the chains of all, by their index
 abbrev pub indices_of : PolicyArea → Family
-indices_of a = record { heads = a.base + 1034 + 4 * a.slots; count = 1024; links = a.base + 2058 + 4 * a.slots; slots = a.slots }
+indices_of a = record { heads = a.base + 1033 + 3 * a.slots; count = 1024; links = a.base + 2057 + 3 * a.slots; slots = a.slots }
 
 -- the priorities
 abbrev pub priorities_of : PolicyArea → Column
-priorities_of a = record { start = a.base + 2058 + 5 * a.slots; slots = a.slots }
+priorities_of a = record { start = a.base + 2057 + 4 * a.slots; slots = a.slots }
 
 -- the numbers
 abbrev pub numbers_of : PolicyArea → Column
-numbers_of a = record { start = a.base + 2058 + 6 * a.slots; slots = a.slots }
+numbers_of a = record { start = a.base + 2057 + 5 * a.slots; slots = a.slots }
 
 -- where the priority of a slot stands
 abbrev pub priority_place : PolicyArea → ℕ → ℕ
@@ -74,11 +69,11 @@ number_place a slot = cell_of (numbers_of a) slot
 
 -- where its record begins
 abbrev pub record_place : PolicyArea → ℕ → ℕ
-record_place a slot = a.base + 2058 + 7 * a.slots + 104 * slot
+record_place a slot = a.base + 2057 + 6 * a.slots + 104 * slot
 
 -- the first place behind these words
 abbrev pub end_of : PolicyArea → ℕ
-end_of a = a.base + 2058 + 111 * a.slots
+end_of a = a.base + 2057 + 110 * a.slots
 
 -- the record of a slot
 abbrev pub record_at : PolicyArea → List ℕ → ℕ → Option Policy

@@ -7,8 +7,8 @@ use Rattle.xf_chain.specs.Chains.{Below, slots_of, first_in, next_in}
 use Rattle.xf_chain.specs.Families.{chain_at, IsOf, last_while, is_other}
 use Rattle.xf_image.specs.declared.area.PolicyArea.{PolicyArea}
 use Rattle.xf_image.specs.declared.places.Places.{Places}
-use Rattle.xf_image.specs.Layout.{order_of, back_of, others_of, exact_of, indices_of, priority_place, number_place}
-use Rattle.xf_image.specs.ExactKeys.{exact_key, other_key}
+use Rattle.xf_image.specs.Layout.{order_of, back_of, exact_of, indices_of, priority_place, number_place}
+use Rattle.xf_image.specs.ExactKeys.{exact_key}
 
 -- a policy of this priority and number is asked after another one: by priority, then by number
 abbrev pub comes : ℕ → ℕ → ℕ → ℕ → Bool
@@ -46,8 +46,6 @@ abbrev pub places_for : PolicyArea → List ℕ → ℕ × ℕ → ℕ × ℕ �
 places_for a image h4 h6 p = record {
   order = place_in_order a image p;
   back = following (chain_at (order_of a) 0) image (place_in_order a image p);
-  other = other_key h4 h6 p;
-  others = place_in a image p (others_of a) (other_key h4 h6 p);
   bucket = exact_key h4 h6 p;
   exact = place_in a image p (exact_of a) (exact_key h4 h6 p);
   row = row_of p;
@@ -66,8 +64,6 @@ abbrev pub places_of : PolicyArea → List ℕ → ℕ × ℕ → ℕ × ℕ →
 places_of a image h4 h6 p slot = record {
   order = following (chain_at (back_of a) 0) image (Some slot);
   back = following (chain_at (order_of a) 0) image (Some slot);
-  other = other_key h4 h6 p;
-  others = before_in image slot (others_of a) (other_key h4 h6 p);
   bucket = exact_key h4 h6 p;
   exact = before_in image slot (exact_of a) (exact_key h4 h6 p);
   row = row_of p;
@@ -78,8 +74,6 @@ places_of a image h4 h6 p slot = record {
 pub record ArePlaces (a : PolicyArea) (p : Places) : Type 0 where
   pub order : Below a.slots p.order
   pub back : Below a.slots p.back
-  pub other : IsOf (others_of a) p.other
-  pub others : Below a.slots p.others
   pub bucket : IsOf (exact_of a) p.bucket
   pub exact : Below a.slots p.exact
   pub row : p.row < 1024

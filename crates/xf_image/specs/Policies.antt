@@ -4,8 +4,8 @@ use Rattle.xf_types.specs.declared.policy.Policy.{Policy}
 use Rattle.xf_types.specs.Machine.{Shown}
 use Rattle.xf_index.specs.Indexes.{Indexed, Holds, records_in}
 use Rattle.xf_image.specs.declared.area.PolicyArea.{PolicyArea}
-use Rattle.xf_image.specs.Layout.{next_index_place, next_number_place, thresholds_place, count_place, order_of, back_of, others_of, exact_of, indices_of, priority_place, number_place, record_at}
-use Rattle.xf_image.specs.ExactKeys.{exact_key, other_key}
+use Rattle.xf_image.specs.Layout.{next_index_place, next_number_place, thresholds_place, count_place, order_of, back_of, exact_of, indices_of, priority_place, number_place, record_at}
+use Rattle.xf_image.specs.ExactKeys.{exact_key}
 
 -- in which chain a policy stands: all stand in one
 abbrev pub everyone : Policy → Option ℕ
@@ -16,12 +16,10 @@ abbrev pub index_key : Policy → Option ℕ
 index_key p = Some (p.index % 1024)
 
 -- Each chain passes just the slots whose policies stand in it, in the order of the list, each once: all policies, and all from the
--- last to the first; those that are found by exact match, in the chain of their hash, and the others in a chain of their own; all,
--- by their index.
+-- last to the first; those that are found by exact match, in the chain of their hash; all, by their index.
 pub record LinksStand (a : PolicyArea) (image : List ℕ) (h4 h6 : ℕ × ℕ) (entries : List (ℕ × Policy)) : Type 0 where
   pub order : Indexed (order_of a) image everyone entries
   pub back : Indexed (back_of a) image everyone (reverse entries)
-  pub others : Indexed (others_of a) image (other_key h4 h6) entries
   pub exact : Indexed (exact_of a) image (exact_key h4 h6) entries
   pub indices : Indexed (indices_of a) image index_key entries
 

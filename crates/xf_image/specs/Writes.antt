@@ -8,8 +8,8 @@ use Rattle.xf_records.specs.Blocks.{stored}
 use Rattle.xf_records.specs.Policies.{policy_words}
 use Rattle.xf_image.specs.declared.area.PolicyArea.{PolicyArea}
 use Rattle.xf_image.specs.declared.places.Places.{Places}
-use Rattle.xf_image.specs.Layout.{next_index_place, next_number_place, thresholds_place, count_place, order_of, back_of, others_of, exact_of, indices_of, priority_place, number_place, record_place, record_at}
-use Rattle.xf_image.specs.ExactKeys.{exact_key, other_key}
+use Rattle.xf_image.specs.Layout.{next_index_place, next_number_place, thresholds_place, count_place, order_of, back_of, exact_of, indices_of, priority_place, number_place, record_place, record_at}
+use Rattle.xf_image.specs.ExactKeys.{exact_key}
 
 -- ---- a new policy
 
@@ -24,10 +24,10 @@ abbrev pub linked_in_order : PolicyArea → List ℕ → Places → ℕ → List
 linked_in_order a image p slot =
     put_in (back_of a) (put_in (order_of a) image (Some 0) p.order slot) (Some 0) p.back slot
 
--- in the chain of exact match, or in that of the others
+-- in the chain of exact match, where it has one
 abbrev pub linked_by_key : PolicyArea → List ℕ → Places → ℕ → List ℕ
 linked_by_key a image p slot =
-    put_in (exact_of a) (put_in (others_of a) image p.other p.others slot) p.bucket p.exact slot
+    put_in (exact_of a) image p.bucket p.exact slot
 
 -- in all its chains
 abbrev pub linked : PolicyArea → List ℕ → Places → ℕ → List ℕ
@@ -54,10 +54,10 @@ abbrev pub cut_from_order : PolicyArea → List ℕ → Places → ℕ → List 
 cut_from_order a image p slot =
     taken_out (back_of a) (taken_out (order_of a) image (Some 0) p.order slot) (Some 0) p.back slot
 
--- out of the chain of exact match, or of that of the others
+-- out of the chain of exact match, where it has one
 abbrev pub cut_from_key : PolicyArea → List ℕ → Places → ℕ → List ℕ
 cut_from_key a image p slot =
-    taken_out (exact_of a) (taken_out (others_of a) image p.other p.others slot) p.bucket p.exact slot
+    taken_out (exact_of a) image p.bucket p.exact slot
 
 -- out of all its chains
 abbrev pub cut_out : PolicyArea → List ℕ → Places → ℕ → List ℕ
@@ -86,15 +86,15 @@ thresholds_put a image h4 h6 =
     lens_put (lens_put image (thresholds_place a) (thresholds_place a + 1) 32 h4)
     (thresholds_place a + 2) (thresholds_place a + 3) 128 h6
 
--- with empty chains of those that are found by exact match, and of the others
+-- with empty chains of those that are found by exact match
 abbrev pub cleared : PolicyArea → List ℕ → ℕ × ℕ → ℕ × ℕ → List ℕ
-cleared a image h4 h6 = emptied (exact_of a).heads 1024 (emptied (others_of a).heads 1 (thresholds_put a image h4 h6))
+cleared a image h4 h6 = emptied (exact_of a).heads 1024 (thresholds_put a image h4 h6)
 
--- a slot at the front of the one of these chains that its policy has under these thresholds
+-- a slot at the front of the chain that its policy has under these thresholds, where it has one
 abbrev pub moved_policy : PolicyArea → ℕ × ℕ → ℕ × ℕ → List ℕ → ℕ → Option Policy → List ℕ
 moved_policy a h4 h6 image slot None = image
 moved_policy a h4 h6 image slot (Some p) =
-    put_in (exact_of a) (put_in (others_of a) image (other_key h4 h6 p) None slot) (exact_key h4 h6 p) None slot
+    put_in (exact_of a) image (exact_key h4 h6 p) None slot
 
 -- the same for the policy in the slot
 abbrev pub moved : PolicyArea → ℕ × ℕ → ℕ × ℕ → List ℕ → ℕ → List ℕ

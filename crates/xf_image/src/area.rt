@@ -69,28 +69,15 @@ impl PolicyArea {
         }
     }
 
-    /// The chain of the policies that aren't found by exact match.
-    pub fn others(&self) -> Family
-        requires { layout.IsArea self.now }
-        ensures { result ≡ layout.others_of self.now }
-    {
-        Family {
-            heads: self.base + 9 + 2 * self.slots,
-            count: 1,
-            links: self.base + 10 + 2 * self.slots,
-            slots: self.slots,
-        }
-    }
-
     /// The chains of the policies that are found by exact match, by their hash.
     pub fn exact(&self) -> Family
         requires { layout.IsArea self.now }
         ensures { result ≡ layout.exact_of self.now }
     {
         Family {
-            heads: self.base + 10 + 3 * self.slots,
+            heads: self.base + 9 + 2 * self.slots,
             count: 1024,
-            links: self.base + 1034 + 3 * self.slots,
+            links: self.base + 1033 + 2 * self.slots,
             slots: self.slots,
         }
     }
@@ -101,9 +88,9 @@ impl PolicyArea {
         ensures { result ≡ layout.indices_of self.now }
     {
         Family {
-            heads: self.base + 1034 + 4 * self.slots,
+            heads: self.base + 1033 + 3 * self.slots,
             count: 1024,
-            links: self.base + 2058 + 4 * self.slots,
+            links: self.base + 2057 + 3 * self.slots,
             slots: self.slots,
         }
     }
@@ -114,7 +101,7 @@ impl PolicyArea {
         ensures { result ≡ layout.priorities_of self.now }
     {
         Column {
-            start: self.base + 2058 + 5 * self.slots,
+            start: self.base + 2057 + 4 * self.slots,
             slots: self.slots,
         }
     }
@@ -125,7 +112,7 @@ impl PolicyArea {
         ensures { result ≡ layout.numbers_of self.now }
     {
         Column {
-            start: self.base + 2058 + 6 * self.slots,
+            start: self.base + 2057 + 5 * self.slots,
             slots: self.slots,
         }
     }
@@ -136,7 +123,7 @@ impl PolicyArea {
         requires slot { slot < self.now.slots }
         ensures { result ≡ layout.priority_place self.now slot }
     {
-        self.base + 2058 + 5 * self.slots + slot
+        self.base + 2057 + 4 * self.slots + slot
     }
 
     /// Where the number of the policy in a slot stands.
@@ -145,7 +132,7 @@ impl PolicyArea {
         requires slot { slot < self.now.slots }
         ensures { result ≡ layout.number_place self.now slot }
     {
-        self.base + 2058 + 6 * self.slots + slot
+        self.base + 2057 + 5 * self.slots + slot
     }
 
     /// Where the record of the policy in a slot begins.
@@ -154,7 +141,7 @@ impl PolicyArea {
         requires slot { slot < self.now.slots }
         ensures { result ≡ layout.record_place self.now slot }
     {
-        self.base + 2058 + 7 * self.slots + 104 * slot
+        self.base + 2057 + 6 * self.slots + 104 * slot
     }
 
     /// The first place behind these words.
@@ -162,6 +149,6 @@ impl PolicyArea {
         requires { layout.IsArea self.now }
         ensures { result ≡ layout.end_of self.now }
     {
-        self.base + 2058 + 111 * self.slots
+        self.base + 2057 + 110 * self.slots
     }
 }

@@ -1,5 +1,5 @@
 -- The loads of the walk through both levels.
-use Rattle.std.proofs.Common.{◌≡◌, ℕ, ◌+◌, ◌≤◌, ◌++◌, List, [], ◌∷◌, Option, None, Some, arith}
+use Rattle.std.proofs.Common.{◌≡◌, ℕ, ◌+◌, ◌*◌, ◌≤◌, ◌++◌, List, [], ◌∷◌, Option, None, Some, arith}
 use Rattle.xf_trie.specs.Keys.{key_of}
 use Rattle.xf_trie.specs.Walks.{visit_of}
 use Rattle.xf_types.specs.declared.network.Flow.{Flow}
@@ -40,3 +40,7 @@ cost_flat x image flow (Some bin) =
 -- the search for the bin and all that follows
 pub whole_cost : (after before bin walks chains rest : ℕ) → after ≤ before + bin + rest → rest ≡ walks + chains → after ≤ before + (bin + walks + chains)
 whole_cost after before bin walks chains rest h e = omega arith
+
+pub few_loads : (after before cost bins nodes policies : ℕ) → after ≤ before + cost → cost ≤ 12 + 16 * (bins + nodes + policies)
+    → after ≤ before + 12 + 16 * (bins + nodes + policies)
+few_loads after before cost bins nodes policies h e = omega arith

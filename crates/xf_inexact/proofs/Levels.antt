@@ -1,5 +1,5 @@
 -- A policy that applies to a flow stands at one of the nodes that are visited for it.
-use Rattle.std.proofs.Common.{◌≡◌, ℕ, ◌<◌, ◌++◌, ◌&&◌, ◌||◌, ◌==◌, Bool, true, false, List, [], ◌∷◌, Option, None, Some, refl, ap, sym, ◌∙◌, subst, eq-eqb}
+use Rattle.std.proofs.Common.{◌≡◌, ℕ, ◌<◌, ◌++◌, ◌&&◌, ◌||◌, ◌==◌, Bool, true, false, if◌then◌else◌, List, [], ◌∷◌, Option, None, Some, refl, ap, sym, ◌∙◌, subst, eq-eqb}
 use Rattle.std.proofs.lemmas.Bool.{eqb-true}
 use Rattle.xf_types.specs.declared.network.Addr.{Addr}
 use Rattle.xf_types.specs.declared.network.Dir.{Dir}
@@ -76,6 +76,13 @@ unfolding bin_of
 bin_below x image ptype family dir if_id =
     found_below_count (bins_of x (bin_bucket ptype family dir if_id)) image (bin_key ptype family dir if_id) 128
 
+pub flow_bin_below : (x : Inexact) (image : List ℕ) (ptype : Ptype) (flow : Flow) → Below (count_of x) (flow_bin x image ptype flow)
+flow_bin_below x image ptype flow = turn (family_of flow.src == family_of flow.dst)
+  where
+    turn : (v : Bool) → Below (count_of x) (if v then bin_of x image ptype (family_of flow.dst) flow.dir flow.if_id else None)
+    turn true = bin_below x image ptype (family_of flow.dst) flow.dir flow.if_id
+    turn false = tt
+
 -- the policy's bin is the flow's
 same_bin : (x : Inexact) (image : List ℕ) (ptype : Ptype) (flow : Flow) (p : Policy) → Applies ptype flow p
     → bin_of x image p.spec.ptype (family_of p.spec.sel.dst.addr) p.spec.dir p.spec.if_id ≡ flow_bin x image ptype flow
@@ -84,6 +91,8 @@ same_bin x image ptype flow p a =
     ∙ ap (λ (f : ℕ). bin_of x image ptype f p.spec.dir p.spec.if_id) a.sel.dst.family
     ∙ ap (λ (d : Dir). bin_of x image ptype (family_of flow.dst) d p.spec.if_id) a.dir
     ∙ ap (λ (i : ℕ). bin_of x image ptype (family_of flow.dst) flow.dir i) a.if_id
+    ∙ sym (ap (λ (v : Bool). if v then bin_of x image ptype (family_of flow.dst) flow.dir flow.if_id else None)
+    (eq-eqb (family_of flow.src) (family_of flow.dst) (sym a.sel.src.family ∙ p.spec.sel.facts.one_family ∙ a.sel.dst.family)))
 
 pub stands_visited : (x : Inexact) (image : List ℕ) (ptype : Ptype) (flow : Flow) (p : Policy) (node : ℕ) → HoldTrees x image
     → applies ptype flow p ≡ true → node_of x image p ≡ Some node → has node (visited x image ptype flow) ≡ true
@@ -91,7 +100,7 @@ unfolding selector_node
 stands_visited x image ptype flow p node t e f =
     let a : Applies ptype flow p = (Decides-applies ptype flow p).0 e in
     in_bin x image flow (flow_bin x image ptype flow) (key_of p.spec.sel.dst.addr) p.spec.sel.dst.len (key_of p.spec.sel.src.addr) p.spec.sel.src.len node t
-    (bin_below x image ptype (family_of flow.dst) flow.dir flow.if_id)
+    (flow_bin_below x image ptype flow)
     (prefix_agrees flow.dst p.spec.sel.dst a.sel.dst) (prefix_agrees flow.src p.spec.sel.src a.sel.src)
     (sym (ap (λ (b : Option ℕ). found_below x image (found_below x image b (key_of p.spec.sel.dst.addr) p.spec.sel.dst.len) (key_of p.spec.sel.src.addr) p.spec.sel.src.len)
     (same_bin x image ptype flow p a)) ∙ f)

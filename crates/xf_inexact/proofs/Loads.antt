@@ -28,7 +28,7 @@ use Rattle.xf_inexact.specs.Places.{below_of, below_root, bucket_root, chains_of
 use Rattle.xf_inexact.specs.Walks.{all_below, bin_walks_cost, chains_cost, first_cost, flow_bin, visited, visited_in, walk_cost, walks_cost}
 use Rattle.xf_inexact.proofs.Apart.{below_is, bucket_is, trees_lay}
 use Rattle.xf_inexact.proofs.Bests.{in_all}
-use Rattle.xf_inexact.proofs.Levels.{bin_below}
+use Rattle.xf_inexact.proofs.Levels.{flow_bin_below}
 use Rattle.xf_inexact.proofs.NodeLaws.{bucket_small}
 use Rattle.xf_inexact.proofs.Visited.{AllBelow, visit_below_count}
 
@@ -54,7 +54,7 @@ fewer_both p q (x ∷ xs) = turn (q x) (p x) refl (fewer_both p q xs)
     turn false true e h = omega (arith, h)
     turn false false e h = h
 
-slots_many : (xs : List Node) → length (map slot_in xs) ≡ length xs
+pub slots_many : (xs : List Node) → length (map slot_in xs) ≡ length xs
 slots_many [] = refl
 slots_many (x ∷ xs) = ap (λ n. suc n) (slots_many xs)
 
@@ -64,7 +64,7 @@ tree_many (Fork node l r) =
     let a = tree_many l in let b = tree_many r in let c = length-append (nodes_of l) (nodes_of r) in omega (arith, a, b, c)
 
 -- a tree has at most twice as many nodes as prefixes
-twice : (t : Tree) → IsTree t → size_of t ≤ 2 * length (items_of t)
+pub twice : (t : Tree) → IsTree t → size_of t ≤ 2 * length (items_of t)
 twice Leaf w = omega arith
 twice (Fork node l r) w = let h = size_bound (Fork node l r) w (omega arith) in omega (arith, h)
 
@@ -154,6 +154,6 @@ pub first_loads : (x : Inexact) (image : List ℕ) (h4 h6 : ℕ × ℕ) (ptype :
     + policies_at (inexact_key x image h4 h6) es (visited x image ptype flow))
 first_loads x image h4 h6 ptype flow es h =
     let a = bin_loads x image ptype flow h.trees in
-    let b = both_loads x image flow (flow_bin x image ptype flow) h.trees (bin_below x image ptype (family_of flow.dst) flow.dir flow.if_id) in
+    let b = both_loads x image flow (flow_bin x image ptype flow) h.trees (flow_bin_below x image ptype flow) in
     let c = chains_loads x image (inexact_key x image h4 h6) es (visited x image ptype flow) (in_all x image flow (flow_bin x image ptype flow)) h.chains in
     omega (arith, a, b, c)

@@ -21,7 +21,7 @@ use Rattle.xf_inexact.proofs.Levels.{bin_below}
 use Rattle.xf_inexact.proofs.Visited.{found_below_count}
 
 -- what is found in words is found in the tree that they hold
-root_node : (x : Inexact) (image : List ℕ) (root key len : ℕ) (h : HoldTrees x image) → is_root x root ≡ true
+pub root_node : (x : Inexact) (image : List ℕ) (root key len : ℕ) (h : HoldTrees x image) → is_root x root ≡ true
     → find_of (tree_at x root) image key len ≡ node_in (h.trees root) key len
 root_node x image root key len h e =
     let s : IsTrie (tree_at x root) image (h.trees root) h.free = trie_of (pool_of x) image (is_root x) h.trees h.free root (trees_lay x) h.forest e in
@@ -34,7 +34,7 @@ bucket_small ptype family dir if_id =
     small : (n : ℕ) → n % 64 < 64
     small n = omega arith
 
-bin_is : (x : Inexact) (image : List ℕ) (ptype : Ptype) (family : ℕ) (dir : Dir) (if_id : ℕ) (h : HoldTrees x image)
+pub bin_is : (x : Inexact) (image : List ℕ) (ptype : Ptype) (family : ℕ) (dir : Dir) (if_id : ℕ) (h : HoldTrees x image)
     → bin_of x image ptype family dir if_id ≡ bin_node x h.trees ptype family dir if_id
 unfolding bin_of
 bin_is x image ptype family dir if_id h =

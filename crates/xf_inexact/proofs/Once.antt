@@ -32,7 +32,7 @@ abbrev pub count : ℕ → List ℕ → ℕ
 count n [] = 0
 count n (x ∷ xs) = one (n == x) + count n xs
 
-count_both : (n : ℕ) (xs ys : List ℕ) → count n (xs ++ ys) ≡ count n xs + count n ys
+pub count_both : (n : ℕ) (xs ys : List ℕ) → count n (xs ++ ys) ≡ count n xs + count n ys
 count_both n [] ys = omega arith
 count_both n (x ∷ xs) ys = let h = count_both n xs ys in omega (arith, h)
 
@@ -43,7 +43,7 @@ one_not a b h = turn (a == b) refl
     turn true q = absurd (h (eqb-true a b q))
     turn false q = refl
 
-one_small : (v : Bool) → one v ≤ 1
+pub one_small : (v : Bool) → one v ≤ 1
 one_small true = omega arith
 one_small false = omega arith
 
@@ -81,7 +81,7 @@ seen_fork n p node l r =
     let b = seen_both n p (nodes_of l) (nodes_of r) in omega (arith, a, b)
 
 -- a node that isn't in a tree
-seen_none : (n : ℕ) (p : Node → Bool) (t : Tree) → Misses n t → seen n p (nodes_of t) ≤ 0
+pub seen_none : (n : ℕ) (p : Node → Bool) (t : Tree) → Misses n t → seen n p (nodes_of t) ≤ 0
 seen_none n p Leaf m = omega arith
 seen_none n p (Fork node l r) m =
     let a = seen_fork n p node l r in
@@ -99,7 +99,7 @@ in_one n P (Fork node l r) u d f g = turn (n == node.slot) refl (λ h. in_one n 
     turn false q k = k (λ e. not_same n node.slot e q)
 
 -- and comes once at most in a tree
-seen_once : (n : ℕ) (p : Node → Bool) (t : Tree) → Distinct t → seen n p (nodes_of t) ≤ 1
+pub seen_once : (n : ℕ) (p : Node → Bool) (t : Tree) → Distinct t → seen n p (nodes_of t) ≤ 1
 seen_once n p Leaf d = omega arith
 seen_once n p (Fork node l r) d = turn (n == node.slot) refl (seen_fork n p node l r) (seen_once n p l d.3) (seen_once n p r d.4)
   where
@@ -115,7 +115,7 @@ seen_once n p (Fork node l r) d = turn (n == node.slot) refl (seen_fork n p node
         (λ m. let c = seen_none n p r m in omega (arith, a, c, x))
 
 -- a node of another owner
-owned_misses : (owner : ℕ → ℕ) (n root : ℕ) (t : Tree) → owner n ≢ root → Owned owner root t → Misses n t
+pub owned_misses : (owner : ℕ → ℕ) (n root : ℕ) (t : Tree) → owner n ≢ root → Owned owner root t → Misses n t
 owned_misses owner n root Leaf h o = tt
 owned_misses owner n root (Fork node l r) h o =
     ((λ e. h (ap owner e ∙ o.0)), owned_misses owner n root l h o.1, owned_misses owner n root r h o.2)
@@ -203,7 +203,7 @@ key_one (Some n) nodes f = turn (has n nodes) refl
     turn true q = f n
     turn false q = let h = count_has n nodes q in omega (arith, h)
 
-stands_one : (e : ℕ × Policy) (es : List (ℕ × Policy)) (b : Bool) → length (cond b (e ∷ es) es) ≡ one b + length es
+pub stands_one : (e : ℕ × Policy) (es : List (ℕ × Policy)) (b : Bool) → length (cond b (e ∷ es) es) ≡ one b + length es
 stands_one e es true = omega arith
 stands_one e es false = omega arith
 

@@ -1,8 +1,5 @@
--- A part in words of zeros, and one none of whose words was written.
-use Rattle.std.proofs.Common.{◌≡◌, ℕ, ◌+◌, ◌<◌, ◌≤◌, ◌||◌, Bool, true, cond, if◌then◌else◌, List, [], ◌∷◌, Option, None, is_some, refl, ap, sym, ◌∙◌, subst, arith, rules, slice_index}
-use Rattle.std.specs.List.{range_with_len}
-use Rattle.xf_cells.specs.Words.{zeros}
-use Rattle.xf_chain.specs.Chains.{slot_of}
+-- A part none of whose words was written.
+use Rattle.std.proofs.Common.{◌≡◌, ℕ, ◌+◌, ◌<◌, ◌≤◌, ◌||◌, Bool, true, cond, if◌then◌else◌, List, [], ◌∷◌, Option, None, is_some, refl, ap, sym, ◌∙◌, subst, arith, slice_index}
 use Rattle.xf_chain.specs.declared.family.Family.{Family}
 use Rattle.xf_chain.specs.Families.{chain_at}
 use Rattle.xf_chain.specs.Lists.{IsChain}
@@ -10,32 +7,14 @@ use Rattle.xf_exact.specs.Parts.{is_in_exact}
 use Rattle.xf_index.specs.Indexes.{AllAre, Indexed, is_number, picked}
 use Rattle.xf_index.proofs.Stays.{indexed_apart}
 use Rattle.xf_trie.specs.Nodes.{place_of}
-use Rattle.xf_trie.specs.Trees.{Leaf}
-use Rattle.xf_trie.proofs.Empties.{zeros_at}
-use Rattle.xf_trie.proofs.WoodWords.{forest_empty, forest_stays}
+use Rattle.xf_trie.proofs.WoodWords.{forest_stays}
 use Rattle.xf_types.specs.declared.policy.Policy.{Policy}
 use Rattle.xf_inexact.specs.declared.inexact.Inexact.{Inexact}
 use Rattle.xf_inexact.specs.Holds.{HoldPart, HoldTrees, inexact_key}
 use Rattle.xf_inexact.specs.Keys.{node_of}
-use Rattle.xf_inexact.specs.Places.{Fits, chains_of, count_of, end_of, is_root, pool_of}
+use Rattle.xf_inexact.specs.Places.{Fits, chains_of, end_of, is_root, pool_of}
 use Rattle.xf_inexact.proofs.Apart.{chains_lay, least_root, most_root}
 use Rattle.xf_inexact.proofs.NodeLaws.{node_is}
-
-no_chain : (family : Family) (n : ℕ) (key : Policy → Option ℕ) → Indexed family (zeros n) key []
-no_chain family n key = record {
-  chains = λ number h. record {
-    path = ap (λ w. slot_of family.slots w) (zeros_at n (family.heads + number));
-    apart = search rules;
-    within = search rules;
-  };
-}
-
-pub part_empty : (x : Inexact) (size : ℕ) (h4 h6 : ℕ × ℕ) → HoldPart x (zeros size) h4 h6 []
-part_empty x size h4 h6 = record {
-  trees = record { trees = λ r. Leaf; free = range_with_len 0 (count_of x); forest = forest_empty (pool_of x) size (is_root x) };
-  nodes = tt;
-  chains = no_chain (chains_of x) size (inexact_key x (zeros size) h4 h6);
-}
 
 -- keys that agree pick the same slots
 picked_same : (one other : Policy → Option ℕ) (number : ℕ) (es : List (ℕ × Policy)) → ((p : Policy) → one p ≡ other p)
@@ -52,7 +31,7 @@ indexed_same family image one other es f is = record {
   chains = λ number n. subst (λ (xs : List ℕ). IsChain (chain_at family number) image xs) (picked_same one other number es f) (is.chains number n);
 }
 
-all_same : (one other : Policy → Bool) (es : List (ℕ × Policy)) → ((p : Policy) → one p ≡ other p) → AllAre one true es → AllAre other true es
+pub all_same : (one other : Policy → Bool) (es : List (ℕ × Policy)) → ((p : Policy) → one p ≡ other p) → AllAre one true es → AllAre other true es
 all_same one other [] f a = tt
 all_same one other (e ∷ es) f a = (sym (f e.1) ∙ a.0, all_same one other es f a.1)
 
@@ -68,6 +47,7 @@ trees_stay x image words f h = record {
       (f ((pool_of x).free + 1) (omega arith) (omega arith))
       (λ r e. let m = most_root x r e in f r (least_root x r e) (omega (arith, m)))
       h.forest;
+  whole = h.whole;
 }
 
 pub part_stays : (x : Inexact) (image words : List ℕ) (size : ℕ) (h4 h6 : ℕ × ℕ) (es : List (ℕ × Policy)) → Fits x size
@@ -82,6 +62,7 @@ part_stays x image words size h4 h6 es fits f h =
       trees = trees;
       nodes = all_same (λ p. is_in_exact h4 h6 p || is_some (node_of x image p)) (λ p. is_in_exact h4 h6 p || is_some (node_of x words p)) es
           (λ p. ap (λ o. is_in_exact h4 h6 p || is_some o) (same p)) h.nodes;
+      needed = h.needed;
       chains = indexed_same (chains_of x) words (inexact_key x image h4 h6) (inexact_key x words h4 h6) es
           (λ p. ap (λ (o : Option ℕ). if is_in_exact h4 h6 p then None else o) (same p))
           (indexed_apart (chains_of x) image words size (inexact_key x image h4 h6) es (chains_lay x size fits)

@@ -1,5 +1,6 @@
 -- How many bins, nodes and policies a lookup may meet.
-use Rattle.std.specs.Prelude.{ℕ, ◌+◌, List, [], ◌∷◌, Option, None, Some, filter, length, map}
+use Rattle.std.specs.Prelude.{ℕ, ◌+◌, ◌&&◌, not, ◌==◌, Bool, List, [], ◌∷◌, Option, None, Some, filter, length, map}
+use Rattle.xf_exact.specs.Parts.{is_in_exact}
 use Rattle.xf_index.specs.Indexes.{picked}
 use Rattle.xf_trie.specs.Keys.{key_of}
 use Rattle.xf_trie.specs.Nodes.{slot_in}
@@ -8,6 +9,8 @@ use Rattle.xf_types.specs.declared.network.Flow.{Flow}
 use Rattle.xf_types.specs.declared.network.Ptype.{Ptype}
 use Rattle.xf_types.specs.declared.policy.Policy.{Policy}
 use Rattle.xf_types.specs.Address.{family_of}
+use Rattle.xf_types.specs.Same.{same_dir, same_ptype}
+use Rattle.xf_types.specs.Selection.{in_prefix}
 use Rattle.xf_inexact.specs.declared.inexact.Inexact.{Inexact}
 use Rattle.xf_inexact.specs.Keys.{bin_bucket}
 use Rattle.xf_inexact.specs.Places.{below_root, bucket_root}
@@ -39,3 +42,13 @@ flow_nodes x trees flow (Some bin) =
 abbrev pub policies_at : (Policy → Option ℕ) → List (ℕ × Policy) → List ℕ → ℕ
 policies_at key entries [] = 0
 policies_at key entries (node ∷ nodes) = length (picked key node entries) + policies_at key entries nodes
+
+-- a policy is of the bin of a flow, whose addresses are both in its prefixes
+abbrev pub is_around : Ptype → Flow → Policy → Bool
+is_around ptype flow p =
+    same_dir p.spec.dir flow.dir && same_ptype p.spec.ptype ptype && (p.spec.if_id == flow.if_id)
+    && in_prefix flow.src p.spec.sel.src && in_prefix flow.dst p.spec.sel.dst
+
+-- how many of these there are that the exact part doesn't take
+abbrev pub policies_around : ℕ × ℕ → ℕ × ℕ → Ptype → Flow → List (ℕ × Policy) → ℕ
+policies_around h4 h6 ptype flow entries = length (filter (λ (e : ℕ × Policy). not (is_in_exact h4 h6 e.1) && is_around ptype flow e.1) entries)

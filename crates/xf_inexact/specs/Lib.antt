@@ -8,3 +8,8 @@ pub mod FirstLaws
 pub mod HoldLaws
 pub mod Bounds
 pub mod BoundLaws
+pub mod Whole
+pub mod Clears
+pub mod Grown
+pub mod Dropped
+pub mod ChangeLaws

@@ -1,5 +1,5 @@
 -- The nodes at which the policies stand that a flow may meet, and the first of these policies.
-use Rattle.std.specs.Prelude.{ℕ, ◌+◌, ◌*◌, ◌++◌, Bool, ◌||◌, ◌==◌, false, List, [], ◌∷◌, Option, None, Some, length}
+use Rattle.std.specs.Prelude.{ℕ, ◌+◌, ◌*◌, ◌++◌, Bool, ◌||◌, ◌==◌, false, if◌then◌else◌, List, [], ◌∷◌, Option, None, Some, length}
 use Rattle.xf_chain.specs.Chains.{slots_of}
 use Rattle.xf_chain.specs.Families.{chain_at}
 use Rattle.xf_exact.specs.declared.hit.Hit.{Hit}
@@ -24,9 +24,10 @@ abbrev pub visited_in : Inexact → List ℕ → Flow → Option ℕ → List �
 visited_in x image flow None = []
 visited_in x image flow (Some bin) = all_below x image (key_of flow.src) (visit_of (below_of x bin) image (key_of flow.dst))
 
--- the bin of a flow
+-- the bin of a flow whose addresses are of one family: no selector matches another one
 abbrev pub flow_bin : Inexact → List ℕ → Ptype → Flow → Option ℕ
-flow_bin x image ptype flow = bin_of x image ptype (family_of flow.dst) flow.dir flow.if_id
+flow_bin x image ptype flow =
+    if family_of flow.src == family_of flow.dst then bin_of x image ptype (family_of flow.dst) flow.dir flow.if_id else None
 
 -- the same in its bin
 abbrev pub visited : Inexact → List ℕ → Ptype → Flow → List ℕ

@@ -1,5 +1,5 @@
 //! The first policy that applies to a flow, of all that stand at the nodes that hold its addresses.
-ghost use Rattle.std.specs.Prelude.{◌≡◌, ℕ, ◌+◌, ◌*◌, ◌<◌, ◌≤◌, List, Option, All, length};
+ghost use Rattle.std.specs.Prelude.{◌≡◌, ℕ, ◌+◌, ◌*◌, ◌^◌, ◌<◌, ◌≤◌, List, Option, All, length};
 ghost use Rattle.xf_cells.specs.Words.{Narrows};
 ghost use Rattle.xf_chain.specs.Chains.{Below, slots_of};
 ghost use Rattle.xf_chain.specs.Families.{chain_at};
@@ -15,6 +15,7 @@ ghost use Rattle.xf_index.specs.Indexes.{records_in};
 ghost use Rattle.xf_types.specs.declared.policy.Policy.{Policy};
 ghost use Rattle.xf_types.specs.Address.{family_of};
 ghost use Rattle.xf_types.specs.PolicyList.{IsPolicyOrder, applies};
+ghost use Rattle.xf_inexact.specs.Bounds.{bins_met, flow_nodes, policies_around};
 ghost use Rattle.xf_inexact.specs.Holds.{HoldPart};
 ghost use Rattle.xf_inexact.specs.Keys.{bin_cost};
 
@@ -22,6 +23,7 @@ use crate::inexact::Inexact;
 use arrayvec::ArrayVec;
 use xf_cells::Load;
 use xf_exact::{Hit, Query, better, found};
+use xf_records::family_word;
 use xf_types::{Addr, Flow, Ptype};
 
 impl Inexact {
@@ -137,6 +139,27 @@ impl Inexact {
 }
 
 impl Inexact {
+    /// The node of the bin of a flow whose addresses are of one family: no selector matches another one.
+    fn flow_bin<L: Load>(&self, l: &mut L, flow: &Flow, ptype: Ptype) -> Option<u32>
+        requires { places.Fits self.now (L.size l.old) }
+        ensures size { L.size l.new ≡ L.size l.old }
+        ensures begun { L.begun l.new ≡ L.begun l.old }
+        ensures rest { L.rest l.new ≡ L.rest l.old }
+        ensures among { Narrows (L.agrees l.old) (L.agrees l.new) }
+        ensures most { L.loads l.new ≤ L.loads l.old + 651 }
+        ensures below { Below (places.count_of self.now) result }
+        ensures if_id { flow.now.if_id < 2 ^ 32 }
+        ensures loads { (image : List ℕ) → L.agrees l.new image → L.loads l.new ≤ L.loads l.old + bin_cost self.now image ptype (family_of flow.now.dst) flow.now.dir flow.now.if_id }
+        ensures answer { (image : List ℕ) → L.agrees l.new image → result ≡ walks.flow_bin self.now image ptype flow.now }
+    {
+        let if_id = flow.if_id;
+        if family_word(&flow.src) == family_word(&flow.dst) {
+            self.bin(l, ptype, &flow.dst, flow.dir, if_id)
+        } else {
+            None
+        }
+    }
+
     /// The best of what stands in the bin of a flow.
     fn first_there<L: Load>(&self, l: &mut L, flow: &Flow, ptype: Ptype) -> Option<Hit>
         requires { places.Fits self.now (L.size l.old) }
@@ -145,10 +168,11 @@ impl Inexact {
         ensures rest { L.rest l.new ≡ L.rest l.old }
         ensures among { Narrows (L.agrees l.old) (L.agrees l.new) }
         ensures most { L.loads l.new ≤ L.loads l.old + 1302 + 129 * (651 + 129 * (4 + 16 * self.now.area.slots)) }
+        ensures if_id { flow.now.if_id < 2 ^ 32 }
         ensures loads { (image : List ℕ) → L.agrees l.new image → L.loads l.new ≤ L.loads l.old + bin_cost self.now image ptype (family_of flow.now.dst) flow.now.dir flow.now.if_id + walks.of_cost self.now image flow.now (walks.flow_bin self.now image ptype flow.now) }
         ensures answer { (image : List ℕ) → L.agrees l.new image → result ≡ walks.best_of self.now image ptype flow.now (walks.flow_bin self.now image ptype flow.now) }
     {
-        let bin = self.bin(l, ptype, &flow.dst, flow.dir, flow.if_id);
+        let bin = self.flow_bin(l, flow, ptype);
         self.best_of(l, bin, ptype, flow)
     }
 
@@ -185,6 +209,7 @@ impl Inexact {
         ensures among { Narrows (L.agrees l.old) (L.agrees l.new) }
         ensures most { L.loads l.new ≤ L.loads l.old + 1302 + 129 * (651 + 129 * (4 + 16 * self.now.area.slots)) }
         ensures loads { (image : List ℕ) → L.agrees l.new image → L.loads l.new ≤ L.loads l.old + walks.first_cost self.now image ptype flow.now }
+        ensures few { (image : List ℕ) (h4 h6 : ℕ × ℕ) (entries : List (ℕ × Policy)) (h : HoldPart self.now image h4 h6 entries) → L.agrees l.new image → ColumnsStand self.now.area image entries → L.loads l.new ≤ L.loads l.old + 12 + 16 * (bins_met self.now h.trees.trees ptype flow.now + flow_nodes self.now h.trees.trees flow.now (walks.flow_bin self.now image ptype flow.now) + policies_around h4 h6 ptype flow.now entries) }
         ensures answer { (image : List ℕ) → L.agrees l.new image → result ≡ walks.inexact_first self.now image ptype flow.now }
         ensures policy { (image : List ℕ) (h4 h6 : ℕ × ℕ) (entries : List (ℕ × Policy)) → L.agrees l.new image → HoldPart self.now image h4 h6 entries → ColumnsStand self.now.area image entries → IsPolicyOrder (records_in entries) → result ≡ hits.first_of (λ p. not (is_in_exact h4 h6 p) && applies ptype flow.now p) entries }
     {

@@ -1,7 +1,9 @@
 ghost use Rattle.std.specs.Prelude.{◌≡◌, ℕ, ◌<◌, true};
 ghost use Rattle.xf_chain.specs.Families.{Lays};
 ghost use Rattle.xf_trie.specs.Nodes.{Lies};
+ghost use Rattle.xf_image.specs.Layout.{IsArea};
 ghost use Rattle.xf_inexact.specs.Places as places;
+ghost use Rattle.xf_inexact.specs.Whole.{trees_of};
 
 use xf_chain::Family;
 use xf_image::PolicyArea;
@@ -15,6 +17,17 @@ pub struct Inexact {
 }
 
 impl Inexact {
+    /// The words of the trees directly behind those of the policies.
+    pub fn behind(area: PolicyArea) -> Inexact
+        requires { IsArea area }
+        ensures { result ≡ trees_of area }
+    {
+        Inexact {
+            area,
+            base: area.end(),
+        }
+    }
+
     /// The tree with its root at a place.
     fn tree(&self, root: u32) -> Trie
         requires { places.IsInexact self.now }

@@ -64,7 +64,12 @@ impl Inexact {
 
     /// The node of a prefix in the tree below a node, where there is one.
     #[tactic(auto, using(crate::proofs::Apart::below_lies))]
-    fn find_below<L: Load>(&self, l: &mut L, node: Option<u32>, p: &Prefix) -> Option<u32>
+    pub(crate) fn find_below<L: Load>(
+        &self,
+        l: &mut L,
+        node: Option<u32>,
+        p: &Prefix,
+    ) -> Option<u32>
         requires fits { places.Fits self.now (L.size l.old) }
         requires node { Below (places.count_of self.now) node }
         ensures size { L.size l.new ≡ L.size l.old }

@@ -1,5 +1,6 @@
 //! Laws of the definitions. No code calls these functions; proofs cite the lemmas.
 ghost use Rattle.xf_inexact.specs.BoundLaws.{BoundLaws};
+ghost use Rattle.xf_inexact.specs.ChangeLaws.{ChangeLaws};
 ghost use Rattle.xf_inexact.specs.FirstLaws.{FirstLaws};
 ghost use Rattle.xf_inexact.specs.HoldLaws.{HoldLaws};
 ghost use Rattle.xf_inexact.specs.KeyLaws.{KeyLaws};
@@ -22,7 +23,7 @@ pub fn firsts(inexact: &Inexact)
     ensures { FirstLaws inexact.now }
 {}
 
-/// Words of zeros hold no policy, and a part none of whose words was written stays.
+/// Words of zeros hold no policy, a part none of whose words was written stays, and six nodes are free where one more policy may come.
 pub fn holds(inexact: &Inexact)
     ensures { HoldLaws inexact.now }
 {}
@@ -30,4 +31,9 @@ pub fn holds(inexact: &Inexact)
 /// What a lookup loads at most.
 pub fn bounds(inexact: &Inexact)
     ensures { BoundLaws inexact.now }
+{}
+
+/// Policies of the exact part and records with an equal request change nothing here.
+pub fn changes(inexact: &Inexact)
+    ensures { ChangeLaws inexact.now }
 {}

@@ -14,10 +14,14 @@
 //! All trees have their nodes in one pool. A bin is a prefix of full length, so the three levels are one structure.
 #![tactic(auto)]
 
+mod clear;
 mod first;
+mod grow;
 mod inexact;
+mod insert;
 mod keys;
 mod laws;
+mod remove;
 
 pub use inexact::Inexact;
-pub use laws::{bins, bounds, firsts, holds, places};
+pub use laws::{bins, bounds, changes, firsts, holds, places};

@@ -1,3 +1,5 @@
+pub mod Wholes
+pub mod Planted
 pub mod Free
 pub mod Reading
 pub mod Named

@@ -11,16 +11,19 @@ use Rattle.xf_types.specs.declared.policy.PolicySpec.{PolicySpec}
 use Rattle.xf_types.specs.Counters.{next_in}
 use Rattle.xf_types.specs.PolicyRules.{last_index}
 use Rattle.xf_types.specs.Same.{dir_number}
-use Rattle.xf_chain.specs.declared.chain.Chain.{Chain}
 use Rattle.xf_chain.specs.Families.{chain_at}
 use Rattle.xf_image.specs.declared.area.PolicyArea.{PolicyArea}
-use Rattle.xf_image.specs.Layout.{others_of, exact_of, record_at}
+use Rattle.xf_image.specs.Layout.{exact_of, record_at}
 use Rattle.xf_image.specs.ExactKeys.{spec_key}
 use Rattle.xf_image.specs.Placing.{places_for, places_of}
 use Rattle.xf_image.specs.Readings.{next_index_in, next_number_in, hthresh4_in, hthresh6_in}
 use Rattle.xf_image.specs.Writes.{added_words, removed_words}
+use Rattle.xf_exact.specs.declared.query.Query.{Query}
 use Rattle.xf_exact.specs.declared.query.Query.TheVariants.{Under}
 use Rattle.xf_exact.specs.Walks.{found_on}
+use Rattle.xf_inexact.specs.Keys.{selector_node}
+use Rattle.xf_inexact.specs.Places.{chains_of}
+use Rattle.xf_inexact.specs.Whole.{trees_of}
 use Rattle.xf_listing.specs.declared.entry.Choice.{Choice}
 use Rattle.xf_listing.specs.declared.entry.Entry.{Entry}
 use Rattle.xf_listing.specs.Header.{count_in}
@@ -42,16 +45,22 @@ abbrev pub found_policy : Option Entry → Option Policy
 found_policy None = None
 found_policy (Some f) = Some f.policy
 
--- the one chain of the exact part or of the others in which all stand that have a key
-abbrev pub chain_or : PolicyArea → Option ℕ → Chain
-chain_or a None = chain_at (others_of a) 0
-chain_or a (Some number) = chain_at (exact_of a) number
+-- the slot of what is asked for in the chain of a node, where there is one
+abbrev pub found_there : PolicyArea → List ℕ → Query → Option ℕ → Option ℕ
+found_there a image query None = None
+found_there a image query (Some node) = found_on a image query (chain_at (chains_of (trees_of a)) node)
+
+-- in the one chain in which all stand that have a selector: that of exact match which it has, else that of its node
+abbrev pub found_by : PolicyArea → List ℕ → Query → Option ℕ → Option ℕ → Option ℕ
+found_by a image query None at = found_there a image query at
+found_by a image query (Some number) at = found_on a image query (chain_at (exact_of a) number)
 
 -- the slot of the policy that is listed under these
 abbrev pub slot_under : PolicyArea → List ℕ → Dir → Ptype → Selector → Mark → ℕ → Option ℕ
 slot_under a image dir ptype sel mark if_id =
-    found_on a image (Under dir ptype sel mark if_id)
-    (chain_or a (spec_key (hthresh4_in a image) (hthresh6_in a image) dir ptype if_id sel))
+    found_by a image (Under dir ptype sel mark if_id)
+    (spec_key (hthresh4_in a image) (hthresh6_in a image) dir ptype if_id sel)
+    (selector_node (trees_of a) image dir ptype if_id sel)
 
 -- the slot of the policy that a key names
 abbrev pub slot_named : PolicyArea → List ℕ → PolicyKey → Option ℕ

@@ -4,7 +4,7 @@ ghost use Rattle.xf_types.specs.Counters.{next_in};
 ghost use Rattle.xf_types.specs.PolicyRules.{last_index};
 ghost use Rattle.xf_types.specs.Same.{dir_number};
 ghost use Rattle.xf_cells.specs.Words.{Narrows};
-ghost use Rattle.xf_image.specs.Layout.{Fits};
+ghost use Rattle.xf_inexact.specs.Whole.{WholeFits};
 ghost use Rattle.xf_listing.specs.Header.{count_in};
 ghost use Rattle.xf_listing.specs.Walks.{is_taken_in, free_in};
 ghost use Rattle.xf_listing.specs.Calls.{choice_in};
@@ -18,7 +18,7 @@ use xf_types::{Dir, PolicySpec};
 impl Listing {
     /// Whether the index that is asked for is given and free.
     fn is_given<L: Load>(&self, l: &mut L, index: u32) -> bool
-        requires { Fits self.now.area (L.size l.old) }
+        requires { WholeFits self.now.area (L.size l.old) }
         ensures size { L.size l.new ≡ L.size l.old }
         ensures begun { L.begun l.new ≡ L.begun l.old }
         ensures rest { L.rest l.new ≡ L.rest l.old }
@@ -30,7 +30,7 @@ impl Listing {
 
     /// The first free number from the counter on.
     fn fresh_number<L: Load>(&self, l: &mut L, dir: Dir, from: u32) -> u32
-        requires fits { Fits self.now.area (L.size l.old) }
+        requires fits { WholeFits self.now.area (L.size l.old) }
         requires some { 1 ≤ from }
         requires most { from ≤ 2 ^ 29 - 1 }
         ensures size { L.size l.new ≡ L.size l.old }
@@ -47,7 +47,7 @@ impl Listing {
 
     /// The index of a new policy, and the word of the counter behind it.
     pub fn chosen<L: Load>(&self, l: &mut L, spec: &PolicySpec) -> Choice
-        requires { Fits self.now.area (L.size l.old) }
+        requires { WholeFits self.now.area (L.size l.old) }
         ensures size { L.size l.new ≡ L.size l.old }
         ensures begun { L.begun l.new ≡ L.begun l.old }
         ensures rest { L.rest l.new ≡ L.rest l.old }

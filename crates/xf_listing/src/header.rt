@@ -1,7 +1,8 @@
 //! What the first words tell.
 ghost use Rattle.std.specs.Prelude.{◌≡◌, ◌*◌, ℕ, ◌+◌, ◌-◌, ◌<◌, ◌≤◌, ◌^◌, min, List, Some, slice_index};
 ghost use Rattle.xf_cells.specs.Words.{Narrows};
-ghost use Rattle.xf_image.specs.Layout.{Fits, thresholds_place};
+ghost use Rattle.xf_image.specs.Layout.{thresholds_place};
+ghost use Rattle.xf_inexact.specs.Whole.{WholeFits};
 ghost use Rattle.xf_image.specs.Readings.{next_index_in, next_number_in, hthresh4_in, hthresh6_in};
 ghost use Rattle.xf_listing.specs.Header.{count_in};
 
@@ -35,8 +36,9 @@ fn lacking(most: u8, word: u64) -> u8
 
 impl Listing {
     /// The index counter.
+    #[tactic(auto, using(crate::proofs::Wholes::list_fits))]
     pub fn index_word<L: Load>(&self, l: &mut L) -> u32
-        requires { Fits self.now.area (L.size l.old) }
+        requires { WholeFits self.now.area (L.size l.old) }
         ensures size { L.size l.new ≡ L.size l.old }
         ensures begun { L.begun l.new ≡ L.begun l.old }
         ensures rest { L.rest l.new ≡ L.rest l.old }
@@ -51,8 +53,9 @@ impl Listing {
     }
 
     /// The number of the next policy.
+    #[tactic(auto, using(crate::proofs::Wholes::list_fits))]
     pub fn number_word<L: Load>(&self, l: &mut L) -> u64
-        requires { Fits self.now.area (L.size l.old) }
+        requires { WholeFits self.now.area (L.size l.old) }
         ensures size { L.size l.new ≡ L.size l.old }
         ensures begun { L.begun l.new ≡ L.begun l.old }
         ensures rest { L.rest l.new ≡ L.rest l.old }
@@ -81,8 +84,9 @@ impl Listing {
     }
 
     /// The thresholds of both families.
+    #[tactic(auto, using(crate::proofs::Wholes::list_fits))]
     pub fn threshold_words<L: Load>(&self, l: &mut L) -> Thresholds
-        requires { Fits self.now.area (L.size l.old) }
+        requires { WholeFits self.now.area (L.size l.old) }
         ensures size { L.size l.new ≡ L.size l.old }
         ensures begun { L.begun l.new ≡ L.begun l.old }
         ensures rest { L.rest l.new ≡ L.rest l.old }
@@ -100,8 +104,9 @@ impl Listing {
     }
 
     /// How many policies are listed.
+    #[tactic(auto, using(crate::proofs::Wholes::list_fits))]
     pub fn count_word<L: Load>(&self, l: &mut L) -> u32
-        requires { Fits self.now.area (L.size l.old) }
+        requires { WholeFits self.now.area (L.size l.old) }
         ensures size { L.size l.new ≡ L.size l.old }
         ensures begun { L.begun l.new ≡ L.begun l.old }
         ensures rest { L.rest l.new ≡ L.rest l.old }

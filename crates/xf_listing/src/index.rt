@@ -2,7 +2,7 @@
 ghost use Rattle.std.specs.Prelude.{◌≡◌, ℕ, ◌+◌, ◌*◌, ◌-◌, ◌^◌, ◌<◌, ◌≤◌, List};
 ghost use Rattle.xf_cells.specs.Words.{Narrows};
 ghost use Rattle.xf_chain.specs.Chains.{Below};
-ghost use Rattle.xf_image.specs.Layout.{Fits};
+ghost use Rattle.xf_inexact.specs.Whole.{WholeFits};
 ghost use Rattle.xf_types.specs.Counters.{next_in};
 ghost use Rattle.xf_types.specs.PolicyRules.{last_index};
 ghost use Rattle.xf_listing.specs.Walks.{slot_with, is_taken_in, free_in};
@@ -24,8 +24,9 @@ pub(crate) fn next_number(number: u32) -> u32
 
 impl Listing {
     /// The slot of the policy with an index.
+    #[tactic(auto, using(crate::proofs::Wholes::list_fits))]
     pub(crate) fn slot_with<L: Load>(&self, l: &mut L, index: u32) -> Option<u32>
-        requires { Fits self.now.area (L.size l.old) }
+        requires { WholeFits self.now.area (L.size l.old) }
         ensures size { L.size l.new ≡ L.size l.old }
         ensures begun { L.begun l.new ≡ L.begun l.old }
         ensures rest { L.rest l.new ≡ L.rest l.old }
@@ -40,7 +41,7 @@ impl Listing {
     }
 
     pub(crate) fn is_taken<L: Load>(&self, l: &mut L, index: u32) -> bool
-        requires { Fits self.now.area (L.size l.old) }
+        requires { WholeFits self.now.area (L.size l.old) }
         ensures size { L.size l.new ≡ L.size l.old }
         ensures begun { L.begun l.new ≡ L.begun l.old }
         ensures rest { L.rest l.new ≡ L.rest l.old }
@@ -58,7 +59,7 @@ impl Listing {
         from: u32,
         tries: u32,
     ) -> u32
-        requires fits { Fits self.now.area (L.size l.old) }
+        requires fits { WholeFits self.now.area (L.size l.old) }
         requires remainder { remainder < 8 }
         requires some { 1 ≤ from }
         requires most { from ≤ 2 ^ 29 - 1 }

@@ -8,12 +8,14 @@ mod header;
 mod index;
 mod layout;
 mod listing;
+mod moving;
 mod naming;
 mod nth;
 mod order;
 mod places;
 mod setting;
 mod soft;
+mod trees;
 mod writes;
 
 pub use entry::{Choice, Entry};

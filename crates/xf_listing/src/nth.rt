@@ -1,7 +1,8 @@
 //! The policy at a place of the list.
 ghost use Rattle.std.specs.Prelude.{◌≡◌, ◌≤◌, ◌*◌, ◌+◌, ℕ, ◌<◌, List};
 ghost use Rattle.xf_cells.specs.Words.{Narrows};
-ghost use Rattle.xf_image.specs.Layout.{Fits, record_at};
+ghost use Rattle.xf_image.specs.Layout.{record_at};
+ghost use Rattle.xf_inexact.specs.Whole.{WholeFits};
 ghost use Rattle.xf_listing.specs.Walks.{nth_on};
 ghost use Rattle.xf_image.specs.Readings.{listed_in};
 
@@ -15,7 +16,7 @@ impl Listing {
     /// The policy in a slot.
     pub fn policy_in<L: Load>(&self, l: &mut L, slot: u32, size: u32) -> Option<Policy>
         requires size { size ≡ L.size l.old }
-        requires fits { Fits self.now.area (L.size l.old) }
+        requires fits { WholeFits self.now.area (L.size l.old) }
         requires slot { slot < self.now.area.slots }
         ensures size { L.size l.new ≡ L.size l.old }
         ensures begun { L.begun l.new ≡ L.begun l.old }
@@ -29,7 +30,7 @@ impl Listing {
 
     /// The policy at a place of the list.
     pub fn nth_listed<L: Load>(&self, l: &mut L, place: u32) -> Option<Policy>
-        requires { Fits self.now.area (L.size l.old) }
+        requires { WholeFits self.now.area (L.size l.old) }
         ensures size { L.size l.new ≡ L.size l.old }
         ensures begun { L.begun l.new ≡ L.begun l.old }
         ensures rest { L.rest l.new ≡ L.rest l.old }

@@ -3,7 +3,8 @@ ghost use Rattle.std.specs.Prelude.{◌≡◌, ◌≤◌, ◌*◌, ◌+◌, ℕ,
 ghost use Rattle.xf_cells.specs.Words.{Narrows};
 ghost use Rattle.xf_chain.specs.Chains.{Below, Lies};
 ghost use Rattle.xf_chain.specs.Families.{chain_at};
-ghost use Rattle.xf_image.specs.Layout.{Fits, order_of, back_of};
+ghost use Rattle.xf_image.specs.Layout.{order_of, back_of};
+ghost use Rattle.xf_inexact.specs.Whole.{WholeFits};
 ghost use Rattle.xf_image.specs.Placing.{following};
 
 use crate::listing::Listing;
@@ -31,7 +32,7 @@ fn following<L: Load>(chain: &Chain, l: &mut L, slot: Option<u32>) -> Option<u32
 impl Listing {
     /// The slot of the policy after a slot's, or of the first one.
     pub fn after<L: Load>(&self, l: &mut L, slot: Option<u32>) -> Option<u32>
-        requires fits { Fits self.now.area (L.size l.old) }
+        requires fits { WholeFits self.now.area (L.size l.old) }
         requires slot { Below self.now.area.slots slot }
         ensures size { L.size l.new ≡ L.size l.old }
         ensures begun { L.begun l.new ≡ L.begun l.old }
@@ -47,7 +48,7 @@ impl Listing {
 
     /// The slot of the policy before a slot's, or of the last one.
     pub(crate) fn before<L: Load>(&self, l: &mut L, slot: Option<u32>) -> Option<u32>
-        requires fits { Fits self.now.area (L.size l.old) }
+        requires fits { WholeFits self.now.area (L.size l.old) }
         requires slot { Below self.now.area.slots slot }
         ensures size { L.size l.new ≡ L.size l.old }
         ensures begun { L.begun l.new ≡ L.begun l.old }

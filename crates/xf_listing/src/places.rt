@@ -2,8 +2,9 @@
 ghost use Rattle.std.specs.Prelude.{◌≡◌, ℕ, ◌<◌, List, Option};
 ghost use Rattle.xf_cells.specs.Words.{Narrows};
 ghost use Rattle.xf_chain.specs.Families.{IsOf};
-ghost use Rattle.xf_image.specs.ExactKeys.{exact_key, only_without};
-ghost use Rattle.xf_image.specs.Layout.{Fits, others_of, exact_of};
+ghost use Rattle.xf_image.specs.ExactKeys.{exact_key};
+ghost use Rattle.xf_image.specs.Layout.{exact_of};
+ghost use Rattle.xf_inexact.specs.Whole.{WholeFits};
 ghost use Rattle.xf_image.specs.Placing.{places_for, places_of, ArePlaces};
 ghost use Rattle.xf_image.specs.Readings.{hthresh4_in, hthresh6_in};
 
@@ -13,21 +14,10 @@ use xf_exact::{before_in, place_in, place_in_order};
 use xf_image::Places;
 use xf_types::Policy;
 
-/// The chain of the others, where a policy has none of the exact part.
-pub(crate) fn other(bucket: Option<u32>) -> Option<u32>
-    ensures is { result ≡ only_without bucket }
-    ensures below { (listing : Listing) → IsOf (others_of listing.area) result }
-{
-    match bucket {
-        None => Some(0),
-        Some(_) => None,
-    }
-}
-
 impl Listing {
     /// The chain of the exact part that a policy has under the thresholds that the words tell.
     fn bucket<L: Load>(&self, l: &mut L, policy: &Policy) -> Option<u32>
-        requires { Fits self.now.area (L.size l.old) }
+        requires { WholeFits self.now.area (L.size l.old) }
         ensures size { L.size l.new ≡ L.size l.old }
         ensures begun { L.begun l.new ≡ L.begun l.old }
         ensures rest { L.rest l.new ≡ L.rest l.old }
@@ -40,8 +30,9 @@ impl Listing {
     }
 
     /// Where a new policy goes.
+    #[tactic(auto, using(crate::proofs::Wholes::list_fits))]
     pub(crate) fn places<L: Load>(&self, l: &mut L, policy: &Policy) -> Places
-        requires { Fits self.now.area (L.size l.old) }
+        requires { WholeFits self.now.area (L.size l.old) }
         ensures size { L.size l.new ≡ L.size l.old }
         ensures begun { L.begun l.new ≡ L.begun l.old }
         ensures rest { L.rest l.new ≡ L.rest l.old }
@@ -52,17 +43,13 @@ impl Listing {
         let size = l.size();
         let row = policy.index % 1024;
         let bucket = self.bucket(l, policy);
-        let other = other(bucket);
         let order = place_in_order(&self.area, l, policy);
         let back = self.after(l, order);
-        let others = place_in(&self.area, l, policy, &self.others(size), other);
         let exact = place_in(&self.area, l, policy, &self.exact(size), bucket);
         let indices = place_in(&self.area, l, policy, &self.indices(size), Some(row));
         Places {
             order,
             back,
-            other,
-            others,
             bucket,
             exact,
             row,
@@ -71,8 +58,9 @@ impl Listing {
     }
 
     /// Where the policy in a slot stands. The list isn't walked: its neighbours are one load each.
+    #[tactic(auto, using(crate::proofs::Wholes::list_fits))]
     pub(crate) fn stood<L: Load>(&self, l: &mut L, slot: u32, policy: &Policy) -> Places
-        requires fits { Fits self.now.area (L.size l.old) }
+        requires fits { WholeFits self.now.area (L.size l.old) }
         requires slot { slot < self.now.area.slots }
         ensures size { L.size l.new ≡ L.size l.old }
         ensures begun { L.begun l.new ≡ L.begun l.old }
@@ -84,17 +72,13 @@ impl Listing {
         let size = l.size();
         let row = policy.index % 1024;
         let bucket = self.bucket(l, policy);
-        let other = other(bucket);
         let order = self.before(l, Some(slot));
         let back = self.after(l, Some(slot));
-        let others = before_in(l, slot, &self.others(size), other);
         let exact = before_in(l, slot, &self.exact(size), bucket);
         let indices = before_in(l, slot, &self.indices(size), Some(row));
         Places {
             order,
             back,
-            other,
-            others,
             bucket,
             exact,
             row,
@@ -104,7 +88,7 @@ impl Listing {
 
     /// The chain of the exact part of cells, whose words stay.
     pub(crate) fn bucket_here<C: Cells>(&self, c: &mut C, policy: &Policy) -> Option<u32>
-        requires { Fits self.now.area (C.size c.old) }
+        requires { WholeFits self.now.area (C.size c.old) }
         ensures size { C.size c.new ≡ C.size c.old }
         ensures begun { C.begun c.new ≡ C.begun c.old }
         ensures rest { C.rest c.new ≡ C.rest c.old }

@@ -1,20 +1,21 @@
 //! Other thresholds: each policy goes to the part that it has under them.
 ghost use Rattle.std.specs.Prelude.{◌≡◌, ℕ, ◌+◌, ◌<◌, ◌≤◌, ◌^◌, true, List, Option, Some, unwrap_or};
 ghost use Rattle.xf_cells.specs.Words.{Narrows};
-ghost use Rattle.xf_image.specs.Layout.{Fits, record_at};
+ghost use Rattle.xf_image.specs.Layout.{record_at};
+ghost use Rattle.xf_inexact.specs.Whole.{WholeFits};
 ghost use Rattle.xf_image.specs.Readings.{hthresh4_in, hthresh6_in};
 ghost use Rattle.xf_image.specs.Writes.{lens_put, thresholds_put, cleared, moved_policy, moved, set_words};
 
 use crate::listing::Listing;
-use crate::places::other;
 use xf_cells::{Cells, Load};
 use xf_chain::Walk;
 use xf_types::{Policy, Thresholds};
 
 impl Listing {
     /// The thresholds of IPv4 that are given, or those that there are.
+    #[tactic(auto, using(crate::proofs::Wholes::list_fits))]
     pub fn given4<L: Load>(&self, l: &mut L, t: &Thresholds) -> (u8, u8)
-        requires { Fits self.now.area (L.size l.old) }
+        requires { WholeFits self.now.area (L.size l.old) }
         ensures size { L.size l.new ≡ L.size l.old }
         ensures begun { L.begun l.new ≡ L.begun l.old }
         ensures rest { L.rest l.new ≡ L.rest l.old }
@@ -30,8 +31,9 @@ impl Listing {
     }
 
     /// The thresholds of IPv6 that are given, or those that there are.
+    #[tactic(auto, using(crate::proofs::Wholes::list_fits))]
     pub fn given6<L: Load>(&self, l: &mut L, t: &Thresholds) -> (u8, u8)
-        requires { Fits self.now.area (L.size l.old) }
+        requires { WholeFits self.now.area (L.size l.old) }
         ensures size { L.size l.new ≡ L.size l.old }
         ensures begun { L.begun l.new ≡ L.begun l.old }
         ensures rest { L.rest l.new ≡ L.rest l.old }
@@ -62,8 +64,9 @@ impl Listing {
         c.store(at + 1, u64::from(whole - lens.1));
     }
 
+    #[tactic(auto, using(crate::proofs::Wholes::list_fits))]
     fn put_thresholds<C: Cells>(&self, c: &mut C, h4: (u8, u8), h6: (u8, u8))
-        requires fits { Fits self.now.area (C.size c.old) }
+        requires fits { WholeFits self.now.area (C.size c.old) }
         requires begun { C.begun c.old ≡ true }
         requires local4 { h4.0 ≤ 32 }
         requires remote4 { h4.1 ≤ 32 }
@@ -78,9 +81,9 @@ impl Listing {
         self.put_lens(c, self.area.thresholds_place() + 2, 128, h6);
     }
 
-    /// Notes the thresholds, and empties both parts.
+    /// Notes the thresholds, and empties the chains of the exact part.
     fn clear<C: Cells>(&self, c: &mut C, h4: (u8, u8), h6: (u8, u8))
-        requires fits { Fits self.now.area (C.size c.old) }
+        requires fits { WholeFits self.now.area (C.size c.old) }
         requires begun { C.begun c.old ≡ true }
         requires local4 { h4.0 ≤ 32 }
         requires remote4 { h4.1 ≤ 32 }
@@ -93,13 +96,12 @@ impl Listing {
     {
         let size = c.size();
         self.put_thresholds(c, h4, h6);
-        self.others(size).clear(c);
         self.exact(size).clear(c);
     }
 
-    /// Puts a slot to the front of the chain that its policy has under the thresholds that the words tell.
+    /// Puts a slot to the front of the chain of the exact part that its policy has under the thresholds that the words tell.
     fn move_policy<C: Cells>(&self, c: &mut C, slot: u32, policy: &Policy)
-        requires fits { Fits self.now.area (C.size c.old) }
+        requires fits { WholeFits self.now.area (C.size c.old) }
         requires begun { C.begun c.old ≡ true }
         requires slot { slot < self.now.area.slots }
         ensures size { C.size c.new ≡ C.size c.old }
@@ -109,14 +111,12 @@ impl Listing {
     {
         let size = c.size();
         let bucket = self.bucket_here(c, policy);
-        let other = other(bucket);
-        self.others(size).insert(c, other, None, slot);
         self.exact(size).insert(c, bucket, None, slot);
     }
 
     /// The policy in a slot of cells, whose words stay.
-    fn policy_here<C: Cells>(&self, c: &mut C, slot: u32) -> Option<Policy>
-        requires fits { Fits self.now.area (C.size c.old) }
+    pub(crate) fn policy_here<C: Cells>(&self, c: &mut C, slot: u32) -> Option<Policy>
+        requires fits { WholeFits self.now.area (C.size c.old) }
         requires slot { slot < self.now.area.slots }
         ensures size { C.size c.new ≡ C.size c.old }
         ensures begun { C.begun c.new ≡ C.begun c.old }
@@ -128,9 +128,9 @@ impl Listing {
         self.policy_in(c, slot, size)
     }
 
-    /// Puts a slot to the front of its new chain.
+    /// Puts a slot to the front of its new chain of the exact part.
     fn move_one<C: Cells>(&self, c: &mut C, slot: u32)
-        requires fits { Fits self.now.area (C.size c.old) }
+        requires fits { WholeFits self.now.area (C.size c.old) }
         requires begun { C.begun c.old ≡ true }
         requires slot { slot < self.now.area.slots }
         ensures size { C.size c.new ≡ C.size c.old }
@@ -143,9 +143,9 @@ impl Listing {
         }
     }
 
-    /// Moves all policies, the last one of the list first, so that each goes to the front.
-    pub fn move_all<C: Cells>(&self, c: &mut C, h4: (u8, u8), h6: (u8, u8))
-        requires fits { Fits self.now.area (C.size c.old) }
+    /// Moves all policies within the exact part, the last one of the list first, so that each goes to the front.
+    pub(crate) fn move_exact<C: Cells>(&self, c: &mut C, h4: (u8, u8), h6: (u8, u8))
+        requires fits { WholeFits self.now.area (C.size c.old) }
         requires local4 { h4.0 ≤ 32 }
         requires remote4 { h4.1 ≤ 32 }
         requires local6 { h6.0 ≤ 128 }

@@ -2,7 +2,8 @@
 ghost use Rattle.std.specs.Prelude.{◌≡◌, ℕ, ◌<◌, ◌-◌, true, Some, slice_index, slice_set};
 ghost use Rattle.xf_records.specs.Policies.{policy_at, policy_words, PolicyFits};
 ghost use Rattle.xf_records.specs.Blocks.{stored};
-ghost use Rattle.xf_image.specs.Layout.{Fits, count_place, record_place};
+ghost use Rattle.xf_image.specs.Layout.{count_place, record_place};
+ghost use Rattle.xf_inexact.specs.Whole.{WholeFits};
 ghost use Rattle.xf_image.specs.Placing.{ArePlaces};
 ghost use Rattle.xf_image.specs.Writes.{counted, linked, ranked, added_words, removed_words, warned_words};
 
@@ -14,8 +15,9 @@ use xf_types::Policy;
 
 impl Listing {
     /// One more policy is listed, and these numbers were given.
+    #[tactic(auto, using(crate::proofs::Wholes::list_fits))]
     fn count_up<C: Cells>(&self, c: &mut C, index_word: u32, number: u64)
-        requires fits { Fits self.now.area (C.size c.old) }
+        requires fits { WholeFits self.now.area (C.size c.old) }
         requires begun { C.begun c.old ≡ true }
         ensures size { C.size c.new ≡ C.size c.old }
         ensures begun { C.begun c.new ≡ true }
@@ -30,7 +32,7 @@ impl Listing {
 
     /// Puts a slot into its chains.
     fn link<C: Cells>(&self, c: &mut C, places: &Places, slot: u32)
-        requires fits { Fits self.now.area (C.size c.old) }
+        requires fits { WholeFits self.now.area (C.size c.old) }
         requires begun { C.begun c.old ≡ true }
         requires places { ArePlaces self.now.area places.now }
         requires slot { slot < self.now.area.slots }
@@ -42,8 +44,6 @@ impl Listing {
         let size = c.size();
         self.order(size).insert(c, Some(0), places.order, slot);
         self.back(size).insert(c, Some(0), places.back, slot);
-        self.others(size)
-            .insert(c, places.other, places.others, slot);
         self.exact(size)
             .insert(c, places.bucket, places.exact, slot);
         self.indices(size)
@@ -52,7 +52,7 @@ impl Listing {
 
     /// Notes a policy's priority and number where walks read them.
     fn rank<C: Cells>(&self, c: &mut C, slot: u32, policy: &Policy)
-        requires fits { Fits self.now.area (C.size c.old) }
+        requires fits { WholeFits self.now.area (C.size c.old) }
         requires begun { C.begun c.old ≡ true }
         requires slot { slot < self.now.area.slots }
         ensures size { C.size c.new ≡ C.size c.old }
@@ -67,7 +67,7 @@ impl Listing {
 
     /// Puts a policy's record into a slot.
     fn put_record<C: Cells>(&self, c: &mut C, slot: u32, policy: &Policy)
-        requires fits { Fits self.now.area (C.size c.old) }
+        requires fits { WholeFits self.now.area (C.size c.old) }
         requires begun { C.begun c.old ≡ true }
         requires slot { slot < self.now.area.slots }
         ensures size { C.size c.new ≡ C.size c.old }
@@ -89,7 +89,7 @@ impl Listing {
         policy: &Policy,
         index_word: u32,
     )
-        requires fits { Fits self.now.area (C.size c.old) }
+        requires fits { WholeFits self.now.area (C.size c.old) }
         requires begun { C.begun c.old ≡ true }
         requires places { ArePlaces self.now.area places.now }
         requires slot { slot < self.now.area.slots }
@@ -106,8 +106,9 @@ impl Listing {
     }
 
     /// One policy less is listed.
+    #[tactic(auto, using(crate::proofs::Wholes::list_fits))]
     fn count_down<C: Cells>(&self, c: &mut C)
-        requires fits { Fits self.now.area (C.size c.old) }
+        requires fits { WholeFits self.now.area (C.size c.old) }
         requires begun { C.begun c.old ≡ true }
         ensures size { C.size c.new ≡ C.size c.old }
         ensures begun { C.begun c.new ≡ true }
@@ -120,7 +121,7 @@ impl Listing {
 
     /// Takes a slot out of its chains.
     pub(crate) fn cut<C: Cells>(&self, c: &mut C, places: &Places, slot: u32)
-        requires fits { Fits self.now.area (C.size c.old) }
+        requires fits { WholeFits self.now.area (C.size c.old) }
         requires begun { C.begun c.old ≡ true }
         requires places { ArePlaces self.now.area places.now }
         requires slot { slot < self.now.area.slots }
@@ -133,8 +134,6 @@ impl Listing {
         self.count_down(c);
         self.order(size).remove(c, Some(0), places.order, slot);
         self.back(size).remove(c, Some(0), places.back, slot);
-        self.others(size)
-            .remove(c, places.other, places.others, slot);
         self.exact(size)
             .remove(c, places.bucket, places.exact, slot);
         self.indices(size)
@@ -143,7 +142,7 @@ impl Listing {
 
     /// Sets the flag in a slot's record.
     pub(crate) fn warn<C: Cells>(&self, c: &mut C, slot: u32)
-        requires fits { Fits self.now.area (C.size c.old) }
+        requires fits { WholeFits self.now.area (C.size c.old) }
         requires begun { C.begun c.old ≡ true }
         requires slot { slot < self.now.area.slots }
         ensures size { C.size c.new ≡ C.size c.old }

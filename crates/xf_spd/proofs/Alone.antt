@@ -21,7 +21,7 @@ use Rattle.xf_index.specs.Indexes.{slots_in, records_in, AllAre}
 use Rattle.xf_image.specs.declared.area.PolicyArea.{PolicyArea}
 use Rattle.xf_image.specs.Layout.{order_of}
 use Rattle.xf_image.specs.Entries.{entries_without, slot_left, IsEntry, InOrder, with_policies}
-use Rattle.xf_image.specs.Policies.{PoliciesStand}
+use Rattle.xf_inexact.specs.Whole.{SpdStands}
 use Rattle.xf_image.specs.Policies.{everyone}
 use Rattle.xf_image.proofs.Parts.{misses_both, left_is}
 use Rattle.xf_index.specs.Finds.{Found}
@@ -81,17 +81,17 @@ gone_is test f es alone b =
     ∙ one_gone test f.slot f.policy b.front b.back b.before b.passes
     (back_fails test f.policy f.slot b.front b.back b.passes (subst (λ (xs : List (ℕ × Policy)). Alone test (records_in xs)) b.whole alone))
 
-pub parts_miss : (a : PolicyArea) (image : List ℕ) (s : Shown) (slot : ℕ) (p : Policy) (front back : List (ℕ × Policy)) → PoliciesStand a image s (front ++ ((slot, p) ∷ back))
+pub parts_miss : (a : PolicyArea) (image : List ℕ) (s : Shown) (slot : ℕ) (p : Policy) (front back : List (ℕ × Policy)) → SpdStands a image s (front ++ ((slot, p) ∷ back))
     → Misses slot (slots_in front) × Misses slot (slots_in back)
 parts_miss a image s slot p front back g =
-    misses_both slot p front back (all_apart (order_of a) image everyone (front ++ ((slot, p) ∷ back)) (λ q. refl) (omega arith) g.links.order)
+    misses_both slot p front back (all_apart (order_of a) image everyone (front ++ ((slot, p) ∷ back)) (λ q. refl) (omega arith) g.list.links.order)
 
-pub left_gone : (a : PolicyArea) (image : List ℕ) (s : Shown) (test : Policy → Bool) (f : Entry) (es : List (ℕ × Policy)) → PoliciesStand a image s es → Alone test s.policies → Found test f.slot f.policy es
+pub left_gone : (a : PolicyArea) (image : List ℕ) (s : Shown) (test : Policy → Bool) (f : Entry) (es : List (ℕ × Policy)) → SpdStands a image s es → Alone test s.policies → Found test f.slot f.policy es
     → slot_left f.slot es ≡ entries_without test es
 left_gone a image s test f es g alone b =
-    let old : PoliciesStand a image s (b.front ++ ((f.slot, f.policy) ∷ b.back)) = subst (λ (xs : List (ℕ × Policy)). PoliciesStand a image s xs) b.whole g in
+    let old : SpdStands a image s (b.front ++ ((f.slot, f.policy) ∷ b.back)) = subst (λ (xs : List (ℕ × Policy)). SpdStands a image s xs) b.whole g in
     let m = parts_miss a image s f.slot f.policy b.front b.back old in
-    let al : Alone test (records_in es) = subst (λ (ps : List Policy). Alone test ps) (sym g.listed) alone in
+    let al : Alone test (records_in es) = subst (λ (ps : List Policy). Alone test ps) (sym g.list.listed) alone in
     ap (λ (xs : List (ℕ × Policy)). slot_left f.slot xs) b.whole ∙ (left_is f.slot f.policy b.front b.back m.0 m.1 ∙ sym (gone_is test f es al b))
 
 -- ---- keys name at most one

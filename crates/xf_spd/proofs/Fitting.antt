@@ -13,7 +13,7 @@ use Rattle.xf_index.proofs.Entries.{slots_append}
 use Rattle.xf_index.proofs.Finds.{found_splits}
 use Rattle.xf_image.specs.declared.area.PolicyArea.{PolicyArea}
 use Rattle.xf_image.specs.Entries.{IsEntry}
-use Rattle.xf_image.specs.Policies.{PoliciesStand}
+use Rattle.xf_inexact.specs.Whole.{SpdStands}
 use Rattle.xf_image.specs.Readings.{listed_in}
 use Rattle.xf_image.proofs.Empties.{zeros_stand}
 use Rattle.xf_image.proofs.Listed.{listed_is}
@@ -22,21 +22,21 @@ use Rattle.xf_spd.specs.Slots.{is_in, PoolFits, Where}
 use Rattle.xf_listing.proofs.Named.{slot_named_is}
 use Rattle.xf_spd.proofs.Pools.{in_between}
 
-pub entry_back : (a : PolicyArea) (image : List ℕ) (s : Shown) (es : List (ℕ × Policy)) (all out : ℕ) (gives takes : ℕ → Type 0) (slot : ℕ) (p : Policy) → PoliciesStand a image s es
+pub entry_back : (a : PolicyArea) (image : List ℕ) (s : Shown) (es : List (ℕ × Policy)) (all out : ℕ) (gives takes : ℕ → Type 0) (slot : ℕ) (p : Policy) → SpdStands a image s es
     → PoolFits all out gives takes a.slots (listed_in a image) → IsEntry es slot p → takes slot
 entry_back a image s es all out gives takes slot p g fits is =
     let e : listed_in a image ≡ slots_in is.front ++ (slot ∷ slots_in is.behind) =
-    listed_is a image s es g ∙ (ap (λ (xs : List (ℕ × Policy)). slots_in xs) is.whole ∙ slots_append is.front ((slot, p) ∷ is.behind)) in
+    listed_is a image s es g.list ∙ (ap (λ (xs : List (ℕ × Policy)). slots_in xs) is.whole ∙ slots_append is.front ((slot, p) ∷ is.behind)) in
     fits.back slot (subst (λ (xs : List ℕ). is_in slot xs ≡ true) (sym e) (in_between (slots_in is.front) (slots_in is.behind) slot))
 
 found_back : (a : PolicyArea) (image : List ℕ) (s : Shown) (es : List (ℕ × Policy)) (all out : ℕ) (gives takes : ℕ → Type 0) (test : Policy → Bool) (o : Option (ℕ × Policy)) → found_in test es ≡ o
-    → PoliciesStand a image s es → PoolFits all out gives takes a.slots (listed_in a image) → Where takes (slot_found o)
+    → SpdStands a image s es → PoolFits all out gives takes a.slots (listed_in a image) → Where takes (slot_found o)
 found_back a image s es all out gives takes test None e g fits = search rules
 found_back a image s es all out gives takes test (Some x) e g fits =
     let f : Found test x.0 x.1 es = found_splits test es x.0 x.1 e in
     entry_back a image s es all out gives takes x.0 x.1 g fits (record { front = f.front; behind = f.back; whole = f.whole })
 
-pub named_back : (a : PolicyArea) (image : List ℕ) (s : Shown) (es : List (ℕ × Policy)) (all out : ℕ) (gives takes : ℕ → Type 0) (key : PolicyKey) → PoliciesStand a image s es
+pub named_back : (a : PolicyArea) (image : List ℕ) (s : Shown) (es : List (ℕ × Policy)) (all out : ℕ) (gives takes : ℕ → Type 0) (key : PolicyKey) → SpdStands a image s es
     → PoolFits all out gives takes a.slots (listed_in a image) → Where takes (slot_named a image key)
 named_back a image s es all out gives takes key g fits =
     subst (λ (o : Option ℕ). Where takes o) (sym (slot_named_is a image s es key g))

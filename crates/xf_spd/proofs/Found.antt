@@ -14,18 +14,25 @@ use Rattle.xf_index.specs.Finds.{found_in, slot_found}
 use Rattle.xf_index.proofs.Alls.{all_within}
 use Rattle.xf_image.specs.declared.area.PolicyArea.{PolicyArea}
 use Rattle.xf_image.specs.Entries.{IsEntry}
-use Rattle.xf_image.specs.Layout.{order_of, record_at}
-use Rattle.xf_image.specs.Policies.{everyone, PoliciesStand}
+use Rattle.xf_image.specs.Layout.{Fits, order_of, record_at}
+use Rattle.xf_image.specs.Policies.{everyone}
+use Rattle.xf_inexact.specs.Whole.{SpdStands, WholeFits, trees_of}
+use Rattle.xf_inexact.proofs.Bests.{both_first}
 use Rattle.xf_exact.specs.declared.hit.Hit.{Hit}
 use Rattle.xf_exact.specs.Hits.{hit_of, first_of, policy_hit}
 use Rattle.xf_exact.proofs.HitLaws.{hit_policy as policy_of_hit}
-use Rattle.xf_exact.proofs.PartLaws.{parts_first, stand_tell}
+use Rattle.xf_exact.proofs.PartLaws.{stand_tell}
 use Rattle.xf_spd.specs.Firsts.{hit_policy, first_in, first_policy_in}
 use Rattle.xf_listing.specs.Walks.{slot_with}
 use Rattle.xf_spd.proofs.Alone.{Alone, all_fail, fails_by, index_alone}
 use Rattle.xf_listing.proofs.Named.{slot_with_is}
+use Rattle.xf_listing.proofs.Wholes.{list_fits}
 
 -- ---- the first that applies
+
+-- the list's words lie where all does
+pub list_lies : (a : PolicyArea) (size : ℕ) → WholeFits a size → Fits a size
+list_lies a size fits = list_fits a size fits
 
 hit_step : (a : PolicyArea) (image : List ℕ) (e : ℕ × Policy) (b : Bool) (rest : Option Hit) → e.0 < a.slots → hit_policy a image rest ≡ policy_hit a image rest
     → hit_policy a image (cond b (Some (hit_of e)) rest) ≡ policy_hit a image (cond b (Some (hit_of e)) rest)
@@ -40,17 +47,17 @@ hit_within : (a : PolicyArea) (image : List ℕ) (test : Policy → Bool) (es : 
 hit_within a image test [] w = refl
 hit_within a image test (e ∷ es) w = hit_step a image e (test e.1) (first_of test es) w.0 (hit_within a image test es w.1)
 
-first_is : (a : PolicyArea) (image : List ℕ) (s : Shown) (es : List (ℕ × Policy)) (ptype : Ptype) (flow : Flow) → IsPolicyOrder s.policies → PoliciesStand a image s es
+first_is : (a : PolicyArea) (image : List ℕ) (s : Shown) (es : List (ℕ × Policy)) (ptype : Ptype) (flow : Flow) → IsPolicyOrder s.policies → SpdStands a image s es
     → first_in a image ptype flow ≡ find (applies ptype flow) s.policies
 first_is a image s es ptype flow order g =
     ap (λ (o : Option Hit). hit_policy a image o)
-    (parts_first a image s.hthresh4 s.hthresh6 ptype flow es (stand_tell a image s g.counters) g.links.exact g.links.others g.columns
-    (subst (λ (ps : List Policy). IsPolicyOrder ps) (sym g.listed) order))
-    ∙ (hit_within a image (applies ptype flow) es (all_within (order_of a) image everyone es (λ p. refl) (omega arith) g.links.order)
-    ∙ (policy_of_hit a image (applies ptype flow) es g.columns.records
-    ∙ ap (λ (ps : List Policy). find (applies ptype flow) ps) g.listed))
+    (both_first (trees_of a) image s.hthresh4 s.hthresh6 ptype flow es (stand_tell a image s g.list.counters) g.list.links.exact g.part g.list.columns
+    (subst (λ (ps : List Policy). IsPolicyOrder ps) (sym g.list.listed) order))
+    ∙ (hit_within a image (applies ptype flow) es (all_within (order_of a) image everyone es (λ p. refl) (omega arith) g.list.links.order)
+    ∙ (policy_of_hit a image (applies ptype flow) es g.list.columns.records
+    ∙ ap (λ (ps : List Policy). find (applies ptype flow) ps) g.list.listed))
 
-pub first_policy_is : (a : PolicyArea) (image : List ℕ) (s : Shown) (es : List (ℕ × Policy)) (flow : Flow) → IsPolicyOrder s.policies → PoliciesStand a image s es
+pub first_policy_is : (a : PolicyArea) (image : List ℕ) (s : Shown) (es : List (ℕ × Policy)) (flow : Flow) → IsPolicyOrder s.policies → SpdStands a image s es
     → first_policy_in a image flow ≡ first_policy s.policies flow
 first_policy_is a image s es flow order g =
     ap (λ (o : Option Policy). or_else o (first_in a image Main flow)) (first_is a image s es Sub flow order g)
@@ -75,12 +82,12 @@ alone_found test slot p (x ∷ front) back a h =
     ap (λ (b : Bool). cond b (Some x) (found_in test (front ++ ((slot, p) ∷ back)))) f
     ∙ alone_found test slot p front back (λ i j d lt within. a (suc i) (suc j) d (omega arith) (omega arith)) h
 
-pub index_slot : (a : PolicyArea) (image : List ℕ) (s : Shown) (es : List (ℕ × Policy)) (index slot : ℕ) (p : Policy) → IsEntry es slot p → p.index ≡ index → IsPolicyList s → PoliciesStand a image s es
+pub index_slot : (a : PolicyArea) (image : List ℕ) (s : Shown) (es : List (ℕ × Policy)) (index slot : ℕ) (p : Policy) → IsEntry es slot p → p.index ≡ index → IsPolicyList s → SpdStands a image s es
     → slot_with a image index ≡ Some slot
 index_slot a image s es index slot p is e sound g =
     let t : has_index index p ≡ true = grind (arith, nat_tests, e) in
     let al : Alone (has_index index) (records_in (is.front ++ ((slot, p) ∷ is.behind))) =
-    subst (λ (xs : List (ℕ × Policy)). Alone (has_index index) (records_in xs)) is.whole (subst (λ (ps : List Policy). Alone (has_index index) ps) (sym g.listed) (index_alone s index sound)) in
-    slot_with_is a image s es index g
+    subst (λ (xs : List (ℕ × Policy)). Alone (has_index index) (records_in xs)) is.whole (subst (λ (ps : List Policy). Alone (has_index index) ps) (sym g.list.listed) (index_alone s index sound)) in
+    slot_with_is a image s es index g.list
     ∙ ap (λ (o : Option (ℕ × Policy)). slot_found o)
     (ap (λ (xs : List (ℕ × Policy)). found_in (has_index index) xs) is.whole ∙ alone_found (has_index index) slot p is.front is.behind al t)

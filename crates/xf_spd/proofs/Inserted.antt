@@ -17,7 +17,7 @@ use Rattle.xf_index.specs.Indexes.{slots_in}
 use Rattle.xf_index.proofs.Entries.{slots_length, records_length, slots_append}
 use Rattle.xf_image.specs.declared.area.PolicyArea.{PolicyArea}
 use Rattle.xf_image.specs.Entries.{new_policy, entries_with, with_listed}
-use Rattle.xf_image.specs.Policies.{PoliciesStand}
+use Rattle.xf_inexact.specs.Whole.{SpdStands}
 use Rattle.xf_image.specs.Readings.{listed_in}
 use Rattle.xf_listing.specs.declared.entry.Choice.{Choice}
 use Rattle.xf_spd.specs.declared.faults.SpdFault.{SpdFault}
@@ -30,10 +30,10 @@ use Rattle.xf_image.proofs.Listed.{listed_is, room_left}
 
 -- ---- room
 
-pub listed_length : (a : PolicyArea) (image : List ℕ) (s : Shown) (es : List (ℕ × Policy)) → PoliciesStand a image s es → length (listed_in a image) ≡ length s.policies
+pub listed_length : (a : PolicyArea) (image : List ℕ) (s : Shown) (es : List (ℕ × Policy)) → SpdStands a image s es → length (listed_in a image) ≡ length s.policies
 listed_length a image s es g =
-    ap (λ (xs : List ℕ). length xs) (listed_is a image s es g)
-    ∙ (slots_length es ∙ (sym (records_length es) ∙ ap (λ (ps : List Policy). length ps) g.listed))
+    ap (λ (xs : List ℕ). length xs) (listed_is a image s es g.list)
+    ∙ (slots_length es ∙ (sym (records_length es) ∙ ap (λ (ps : List Policy). length ps) g.list.listed))
 
 pub if_room : (s : Shown) (spec : PolicySpec) → length s.policies < s.max_policies → policy_added_if_room s spec ≡ added_with_index s spec
 if_room s spec h =
@@ -96,13 +96,13 @@ add_rule s spec e o = sym (ap (λ (b : Bool). add_by s spec b (policy_same_as s 
 
 -- ---- what the words then stand for
 
-pub adds_is : (a : PolicyArea) (image words : List ℕ) (s : Shown) (es : List (ℕ × Policy)) (slot : ℕ) (spec : PolicySpec) (choice : Choice) → IsInRoom s → IsInRange s → PoliciesStand a image s es
+pub adds_is : (a : PolicyArea) (image words : List ℕ) (s : Shown) (es : List (ℕ × Policy)) (slot : ℕ) (spec : PolicySpec) (choice : Choice) → IsInRoom s → IsInRange s → SpdStands a image s es
     → choice ≡ choice_in a image spec
-    → PoliciesStand a words (with_listed s (new_policy s spec choice.index) (choice.word + 1)) (entries_with slot (new_policy s spec choice.index) es)
+    → SpdStands a words (with_listed s (new_policy s spec choice.index) (choice.word + 1)) (entries_with slot (new_policy s spec choice.index) es)
     → Adds a words s es slot choice.index spec (added_with_index s spec)
 adds_is a image words s es slot spec choice room range g same st =
     let e : listed_as s spec choice.index (choice.word + 1) ≡ added_with_index s spec =
-    ap (λ (c : Choice). listed_as s spec c.index (c.word + 1)) same ∙ choice_is a image s es spec room range g in
+    ap (λ (c : Choice). listed_as s spec c.index (c.word + 1)) same ∙ choice_is a image s es spec room range g.list in
     subst (λ (rule : Answer). Adds a words s es slot choice.index spec rule) e (record { reply = refl; stands = st })
 
 -- ---- the slots then
@@ -131,20 +131,20 @@ with_splits slot p es =
       whole = ap (λ (xs : List (ℕ × Policy)). slots_in xs) k.whole ∙ slots_append k.front ((slot, p) ∷ k.back);
     }
 
-pub full_is : (a : PolicyArea) (image : List ℕ) (s : Shown) (es : List (ℕ × Policy)) (spec : PolicySpec) (live held : ℕ) (fault : SpdFault) → PoliciesStand a image s es
+pub full_is : (a : PolicyArea) (image : List ℕ) (s : Shown) (es : List (ℕ × Policy)) (spec : PolicySpec) (live held : ℕ) (fault : SpdFault) → SpdStands a image s es
     → fault ≡ Full live held → live ≡ length (listed_in a image) → live + held ≡ a.slots → FaultIs held s (λ t. (policy_added_if_room t spec).reply) fault
 full_is a image s es spec live held fault g e l r =
     let all : live ≡ length s.policies = l ∙ listed_length a image s es g in
     subst (λ (f : SpdFault). FaultIs held s (λ t. (policy_added_if_room t spec).reply) f) (sym e)
-    (record { all = all; waits = refl; room = r ∙ sym g.room; reply = if_full s spec live all })
+    (record { all = all; waits = refl; room = r ∙ sym g.list.room; reply = if_full s spec live all })
 
-pub free_entry : (a : PolicyArea) (image : List ℕ) (s : Shown) (es : List (ℕ × Policy)) (slot : ℕ) → PoliciesStand a image s es → Misses slot (listed_in a image) → Misses slot (slots_in es)
-free_entry a image s es slot g m = subst (λ (xs : List ℕ). Misses slot xs) (listed_is a image s es g) m
+pub free_entry : (a : PolicyArea) (image : List ℕ) (s : Shown) (es : List (ℕ × Policy)) (slot : ℕ) → SpdStands a image s es → Misses slot (listed_in a image) → Misses slot (slots_in es)
+free_entry a image s es slot g m = subst (λ (xs : List ℕ). Misses slot xs) (listed_is a image s es g.list) m
 
-pub room_rule : (a : PolicyArea) (image words : List ℕ) (s : Shown) (es : List (ℕ × Policy)) (slot index : ℕ) (spec : PolicySpec) → PoliciesStand a image s es → slot < a.slots → Misses slot (slots_in es)
+pub room_rule : (a : PolicyArea) (image words : List ℕ) (s : Shown) (es : List (ℕ × Policy)) (slot index : ℕ) (spec : PolicySpec) → SpdStands a image s es → slot < a.slots → Misses slot (slots_in es)
     → Adds a words s es slot index spec (added_with_index s spec) → Adds a words s es slot index spec (policy_added_if_room s spec)
 room_rule a image words s es slot index spec g below miss adds =
-    subst (λ (rule : Answer). Adds a words s es slot index spec rule) (sym (if_room s spec (room_left a image s es slot g below miss))) adds
+    subst (λ (rule : Answer). Adds a words s es slot index spec rule) (sym (if_room s spec (room_left a image s es slot g.list below miss))) adds
 
 -- ---- faults
 

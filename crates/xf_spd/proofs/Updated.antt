@@ -15,7 +15,7 @@ use Rattle.xf_index.specs.Finds.{found_in, slot_found, record_found, Found}
 use Rattle.xf_index.proofs.Finds.{found_record, found_none}
 use Rattle.xf_image.specs.declared.area.PolicyArea.{PolicyArea}
 use Rattle.xf_image.specs.Entries.{entries_with, entries_without}
-use Rattle.xf_image.specs.Policies.{PoliciesStand}
+use Rattle.xf_inexact.specs.Whole.{SpdStands}
 use Rattle.xf_image.specs.Readings.{listed_in}
 use Rattle.xf_listing.specs.declared.entry.Entry.{Entry}
 use Rattle.xf_spd.specs.declared.faults.SpdFault.{SpdFault}
@@ -63,21 +63,21 @@ new_by a words s es gave spec rule (Ok index) e k h = record {
 new_by a words s es gave spec rule (Err fault) e k h = search rules
 
 pub new_replaces : (a : PolicyArea) (image words : List ℕ) (s : Shown) (es : List (ℕ × Policy)) (gave : ℕ → Type 0) (spec : PolicySpec) (result : Result ℕ SpdFault) (rule : Answer)
-    → PoliciesStand a image s es → policy_same_as s spec ≡ None
+    → SpdStands a image s es → policy_same_as s spec ≡ None
     → IfOk result (λ index. AddsGiven a words s es gave index spec rule) → IfOk result (λ index. Replaces a words s es gave index spec rule)
 new_replaces a image words s es gave spec result rule g e h =
-    let n : found_in (λ p. is_same p.spec spec) es ≡ None = none_found s es spec g.listed e in
+    let n : found_in (λ p. is_same p.spec spec) es ≡ None = none_found s es spec g.list.listed e in
     new_by a words s es gave spec rule result n (kept_all (λ p. is_same p.spec spec) es (found_none (λ p. is_same p.spec spec) es n)) h
 
 -- ---- one is the same
 
-pub own_slot : (a : PolicyArea) (image : List ℕ) (s : Shown) (es : List (ℕ × Policy)) (spec : PolicySpec) (f : Entry) → PoliciesStand a image s es → same_in a image spec ≡ Some f
+pub own_slot : (a : PolicyArea) (image : List ℕ) (s : Shown) (es : List (ℕ × Policy)) (spec : PolicySpec) (f : Entry) → SpdStands a image s es → same_in a image spec ≡ Some f
     → slot_found (found_in (λ p. is_same p.spec spec) es) ≡ Some f.slot
 own_slot a image s es spec f g e =
     sym (same_slot_is a image s es spec g) ∙ found_slot a image (slot_under a image spec.dir spec.ptype spec.sel spec.mark spec.if_id) f e
 
 pub own_replaces : (a : PolicyArea) (image words : List ℕ) (s : Shown) (es : List (ℕ × Policy)) (gave : ℕ → Type 0) (spec : PolicySpec) (index : ℕ) (f : Entry) (rule : Answer)
-    → PoliciesStand a image s es → same_in a image spec ≡ Some f
+    → SpdStands a image s es → same_in a image spec ≡ Some f
     → Adds a words s (entries_without (λ p. is_same p.spec spec) es) f.slot index spec rule → Replaces a words s es gave index spec rule
 own_replaces a image words s es gave spec index f rule g e adds = record {
   slot = f.slot;
@@ -86,8 +86,8 @@ own_replaces a image words s es gave spec index f rule g e adds = record {
 }
 
 pub own_pool : (a : PolicyArea) (image words : List ℕ) (s t : Shown) (es : List (ℕ × Policy)) (spec : PolicySpec) (p : Policy) (f : Entry) (all out : ℕ) (gives takes : ℕ → Type 0)
-    → IsPolicyList s → PoliciesStand a image s es → Found (λ p. is_same p.spec spec) f.slot f.policy es
-    → PoliciesStand a words t (entries_with f.slot p (entries_without (λ p. is_same p.spec spec) es))
+    → IsPolicyList s → SpdStands a image s es → Found (λ p. is_same p.spec spec) f.slot f.policy es
+    → SpdStands a words t (entries_with f.slot p (entries_without (λ p. is_same p.spec spec) es))
     → PoolFits all out gives takes a.slots (listed_in a image) → PoolFits all out gives takes a.slots (listed_in a words)
 own_pool a image words s t es spec p f all out gives takes sound g found st fits =
     let test : Policy → Bool = λ p. is_same p.spec spec in
@@ -96,5 +96,5 @@ own_pool a image words s t es spec p f all out gives takes sound g found st fits
     let gone = left_gone a image s test f es g (same_alone s spec sound) found in
     pool_moved all out a.slots f.slot gives takes (listed_in a image) (listed_in a words) cut.front cut.back split.front split.back fits
     (sym cut.left ∙ (ap (λ (xs : List (ℕ × Policy)). slots_in xs) gone ∙ split.old))
-    (listed_is a image s es g ∙ cut.whole)
-    (listed_is a words t (entries_with f.slot p (entries_without test es)) st ∙ split.whole)
+    (listed_is a image s es g.list ∙ cut.whole)
+    (listed_is a words t (entries_with f.slot p (entries_without test es)) st.list ∙ split.whole)

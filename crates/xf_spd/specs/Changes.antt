@@ -10,7 +10,7 @@ use Rattle.xf_types.specs.PolicyList.{is_same}
 use Rattle.xf_index.specs.Finds.{found_in, slot_found}
 use Rattle.xf_image.specs.declared.area.PolicyArea.{PolicyArea}
 use Rattle.xf_image.specs.Entries.{new_policy, entries_with, entries_without}
-use Rattle.xf_image.specs.Policies.{PoliciesStand}
+use Rattle.xf_inexact.specs.Whole.{SpdStands}
 
 -- What holds of each machine that a run reaches, as far as policies go, at this time.
 pub record IsAt (s : Shown) (now : ℕ) : Type 0 where
@@ -23,7 +23,7 @@ pub record IsAt (s : Shown) (now : ℕ) : Type 0 where
 -- The rule answers the index, and the words stand for what it makes, with the new policy in this slot beside the others.
 pub record Adds (a : PolicyArea) (words : List ℕ) (s : Shown) (others : List (ℕ × Policy)) (slot index : ℕ) (spec : PolicySpec) (rule : Answer) : Type 0 where
   pub reply : rule.reply ≡ DoneIndex index
-  pub stands : PoliciesStand a words (shown_after s rule.change) (entries_with slot (new_policy s spec index) others)
+  pub stands : SpdStands a words (shown_after s rule.change) (entries_with slot (new_policy s spec index) others)
 
 -- The same, in a slot that the pool could give.
 pub record AddsGiven (a : PolicyArea) (words : List ℕ) (s : Shown) (entries : List (ℕ × Policy)) (gave : ℕ → Type 0) (index : ℕ) (spec : PolicySpec) (rule : Answer) : Type 0 where

@@ -4,8 +4,7 @@ ghost use Rattle.xf_types.specs.declared.policy.Policy.{Policy};
 ghost use Rattle.xf_types.specs.Machine.{Shown};
 ghost use Rattle.xf_types.specs.PolicyRules.{policy_get};
 ghost use Rattle.xf_cells.specs.Words.{Narrows};
-ghost use Rattle.xf_image.specs.Layout.{Fits};
-ghost use Rattle.xf_image.specs.Policies.{PoliciesStand};
+ghost use Rattle.xf_inexact.specs.Whole.{SpdStands, WholeFits};
 ghost use Rattle.xf_spd.specs.Replies.{IsKeyFault, named_reply, policy_reply};
 
 use crate::faults::SpdFault;
@@ -29,14 +28,14 @@ fn told(entry: Option<Entry>) -> Result<Policy, SpdFault>
 impl Spd {
     /// The policy that a key names. It is Invalid or NoEntry where there is none.
     pub fn get<L: Load>(&self, l: &mut L, key: &PolicyKey) -> Result<Policy, SpdFault>
-        requires { Fits self.now.area (L.size l.old) }
+        requires { WholeFits self.now.area (L.size l.old) }
         ensures size { L.size l.new ≡ L.size l.old }
         ensures begun { L.begun l.new ≡ L.begun l.old }
         ensures rest { L.rest l.new ≡ L.rest l.old }
         ensures among { Narrows (L.agrees l.old) (L.agrees l.new) }
-        ensures loads { L.loads l.new ≤ L.loads l.old + 105 + 16 * self.now.area.slots }
+        ensures loads { L.loads l.new ≤ L.loads l.old + 2058 + 16 * self.now.area.slots }
         ensures fault { IfErr result IsKeyFault }
-        ensures answer { (image : List ℕ) (s : Shown) (es : List (ℕ × Policy)) → L.agrees l.new image → PoliciesStand self.now.area image s es → policy_reply result ≡ (policy_get s key.now).reply }
+        ensures answer { (image : List ℕ) (s : Shown) (es : List (ℕ × Policy)) → L.agrees l.new image → SpdStands self.now.area image s es → policy_reply result ≡ (policy_get s key.now).reply }
     {
         if is_bad_key(key) {
             return Err(SpdFault::Invalid);

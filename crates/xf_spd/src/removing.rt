@@ -9,8 +9,7 @@ ghost use Rattle.xf_types.specs.PolicyRules.{policy_delete};
 ghost use Rattle.xf_index.specs.Indexes.{records_in};
 ghost use Rattle.xf_image.specs.Entries.{entries_without, slot_left, IsEntry, with_policies};
 ghost use Rattle.xf_image.specs.Frames.{Frame};
-ghost use Rattle.xf_image.specs.Layout.{Fits, end_of};
-ghost use Rattle.xf_image.specs.Policies.{PoliciesStand};
+ghost use Rattle.xf_inexact.specs.Whole.{SpdStands, WholeFits, whole_end};
 ghost use Rattle.xf_image.specs.Readings.{listed_in};
 ghost use Rattle.xf_listing.specs.Calls.{slot_named};
 ghost use Rattle.xf_spd.specs.Replies.{IsKeyFault, index_reply};
@@ -26,7 +25,7 @@ use xf_types::PolicyKey;
 impl Spd {
     /// Takes a policy out of its slot, and gives the slot back.
     fn remove_entry<C: Cells, P: Pool>(&self, c: &mut C, pool: &mut P, entry: &Entry)
-        requires fits { Fits self.now.area (C.size c.old) }
+        requires fits { WholeFits self.now.area (C.size c.old) }
         requires slot { entry.now.slot < self.now.area.slots }
         requires back { P.takes pool.old entry.now.slot }
         ensures size { C.size c.new ≡ C.size c.old }
@@ -36,9 +35,9 @@ impl Spd {
         ensures lasts { P.lasts pool.new ≡ P.lasts pool.old }
         ensures held { P.held pool.new ≡ P.held pool.old }
         ensures returned { P.returned pool.new entry.now.slot }
-        ensures frame { Frame self.now.area.base (end_of self.now.area) (C.words c.old) (C.words c.new) }
-        ensures removes { (s : Shown) (es : List (ℕ × Policy)) → IsEntry es entry.now.slot entry.now.policy → PoliciesStand self.now.area (C.words c.old) s es → PoliciesStand self.now.area (C.words c.new) (with_policies s (records_in (slot_left entry.now.slot es))) (slot_left entry.now.slot es) }
-        ensures pool { (s : Shown) (es : List (ℕ × Policy)) → P.lasts pool.old ≡ true → IsEntry es entry.now.slot entry.now.policy → PoliciesStand self.now.area (C.words c.old) s es → PoolFits (P.capacity pool.old) (P.taken pool.old) (P.gives pool.old) (P.takes pool.old) self.now.area.slots (listed_in self.now.area (C.words c.old)) → PoolFits (P.capacity pool.new) (P.taken pool.new) (P.gives pool.new) (P.takes pool.new) self.now.area.slots (listed_in self.now.area (C.words c.new)) }
+        ensures frame { Frame self.now.area.base (whole_end self.now.area) (C.words c.old) (C.words c.new) }
+        ensures removes { (s : Shown) (es : List (ℕ × Policy)) → IsEntry es entry.now.slot entry.now.policy → SpdStands self.now.area (C.words c.old) s es → SpdStands self.now.area (C.words c.new) (with_policies s (records_in (slot_left entry.now.slot es))) (slot_left entry.now.slot es) }
+        ensures pool { (s : Shown) (es : List (ℕ × Policy)) → P.lasts pool.old ≡ true → IsEntry es entry.now.slot entry.now.policy → SpdStands self.now.area (C.words c.old) s es → PoolFits (P.capacity pool.old) (P.taken pool.old) (P.gives pool.old) (P.takes pool.old) self.now.area.slots (listed_in self.now.area (C.words c.old)) → PoolFits (P.capacity pool.new) (P.taken pool.new) (P.gives pool.new) (P.takes pool.new) self.now.area.slots (listed_in self.now.area (C.words c.new)) }
     {
         Listing { area: self.area }.delist(c, entry);
         pool.give(entry.slot);
@@ -52,7 +51,7 @@ impl Spd {
         pool: &mut P,
         key: &PolicyKey,
     ) -> Result<u32, SpdFault>
-        requires fits { Fits self.now.area (C.size c.old) }
+        requires fits { WholeFits self.now.area (C.size c.old) }
         requires back { Where (P.takes pool.old) (slot_named self.now.area (C.words c.old) key.now) }
         ensures size { C.size c.new ≡ C.size c.old }
         ensures rest { C.rest c.new ≡ C.rest c.old }
@@ -61,12 +60,12 @@ impl Spd {
         ensures held { P.held pool.new ≡ P.held pool.old }
         ensures begun { C.begun c.new ≡ (if is_ok result then true else C.begun c.old) }
         ensures refused { IsErr result → C.words c.new ≡ C.words c.old }
-        ensures frame { Frame self.now.area.base (end_of self.now.area) (C.words c.old) (C.words c.new) }
+        ensures frame { Frame self.now.area.base (whole_end self.now.area) (C.words c.old) (C.words c.new) }
         ensures fault { IfErr result IsKeyFault }
         ensures returned { IsOk result → Where (P.returned pool.new) (slot_named self.now.area (C.words c.old) key.now) }
-        ensures reply { (s : Shown) (es : List (ℕ × Policy)) → PoliciesStand self.now.area (C.words c.old) s es → index_reply result ≡ (policy_delete s key.now).reply }
-        ensures stands { (s : Shown) (es : List (ℕ × Policy)) → IsOk result → IsPolicyList s → PoliciesStand self.now.area (C.words c.old) s es → PoliciesStand self.now.area (C.words c.new) (shown_after s (policy_delete s key.now).change) (entries_without (has_key key.now) es) }
-        ensures pool { (s : Shown) (es : List (ℕ × Policy)) → P.lasts pool.old ≡ true → PoliciesStand self.now.area (C.words c.old) s es → PoolFits (P.capacity pool.old) (P.taken pool.old) (P.gives pool.old) (P.takes pool.old) self.now.area.slots (listed_in self.now.area (C.words c.old)) → PoolFits (P.capacity pool.new) (P.taken pool.new) (P.gives pool.new) (P.takes pool.new) self.now.area.slots (listed_in self.now.area (C.words c.new)) }
+        ensures reply { (s : Shown) (es : List (ℕ × Policy)) → SpdStands self.now.area (C.words c.old) s es → index_reply result ≡ (policy_delete s key.now).reply }
+        ensures stands { (s : Shown) (es : List (ℕ × Policy)) → IsOk result → IsPolicyList s → SpdStands self.now.area (C.words c.old) s es → SpdStands self.now.area (C.words c.new) (shown_after s (policy_delete s key.now).change) (entries_without (has_key key.now) es) }
+        ensures pool { (s : Shown) (es : List (ℕ × Policy)) → P.lasts pool.old ≡ true → SpdStands self.now.area (C.words c.old) s es → PoolFits (P.capacity pool.old) (P.taken pool.old) (P.gives pool.old) (P.takes pool.old) self.now.area.slots (listed_in self.now.area (C.words c.old)) → PoolFits (P.capacity pool.new) (P.taken pool.new) (P.gives pool.new) (P.takes pool.new) self.now.area.slots (listed_in self.now.area (C.words c.new)) }
     {
         if is_bad_key(key) {
             return Err(SpdFault::Invalid);
@@ -82,7 +81,7 @@ impl Spd {
 
     /// Removes the policy in a slot. The pool has to take back the slot. A loop over the list asks for the next slot before.
     pub fn remove<C: Cells, P: Pool>(&self, c: &mut C, pool: &mut P, slot: u32)
-        requires fits { Fits self.now.area (C.size c.old) }
+        requires fits { WholeFits self.now.area (C.size c.old) }
         requires slot { slot < self.now.area.slots }
         requires back { P.takes pool.old slot }
         ensures size { C.size c.new ≡ C.size c.old }
@@ -90,11 +89,11 @@ impl Spd {
         ensures capacity { P.capacity pool.new ≡ P.capacity pool.old }
         ensures lasts { P.lasts pool.new ≡ P.lasts pool.old }
         ensures held { P.held pool.new ≡ P.held pool.old }
-        ensures frame { Frame self.now.area.base (end_of self.now.area) (C.words c.old) (C.words c.new) }
-        ensures begun { (s : Shown) (es : List (ℕ × Policy)) (p : Policy) → IsEntry es slot p → PoliciesStand self.now.area (C.words c.old) s es → C.begun c.new ≡ true }
-        ensures returned { (s : Shown) (es : List (ℕ × Policy)) (p : Policy) → IsEntry es slot p → PoliciesStand self.now.area (C.words c.old) s es → P.returned pool.new slot }
-        ensures stands { (s : Shown) (es : List (ℕ × Policy)) (p : Policy) → IsEntry es slot p → PoliciesStand self.now.area (C.words c.old) s es → PoliciesStand self.now.area (C.words c.new) (with_policies s (records_in (slot_left slot es))) (slot_left slot es) }
-        ensures pool { (s : Shown) (es : List (ℕ × Policy)) (p : Policy) → P.lasts pool.old ≡ true → IsEntry es slot p → PoliciesStand self.now.area (C.words c.old) s es → PoolFits (P.capacity pool.old) (P.taken pool.old) (P.gives pool.old) (P.takes pool.old) self.now.area.slots (listed_in self.now.area (C.words c.old)) → PoolFits (P.capacity pool.new) (P.taken pool.new) (P.gives pool.new) (P.takes pool.new) self.now.area.slots (listed_in self.now.area (C.words c.new)) }
+        ensures frame { Frame self.now.area.base (whole_end self.now.area) (C.words c.old) (C.words c.new) }
+        ensures begun { (s : Shown) (es : List (ℕ × Policy)) (p : Policy) → IsEntry es slot p → SpdStands self.now.area (C.words c.old) s es → C.begun c.new ≡ true }
+        ensures returned { (s : Shown) (es : List (ℕ × Policy)) (p : Policy) → IsEntry es slot p → SpdStands self.now.area (C.words c.old) s es → P.returned pool.new slot }
+        ensures stands { (s : Shown) (es : List (ℕ × Policy)) (p : Policy) → IsEntry es slot p → SpdStands self.now.area (C.words c.old) s es → SpdStands self.now.area (C.words c.new) (with_policies s (records_in (slot_left slot es))) (slot_left slot es) }
+        ensures pool { (s : Shown) (es : List (ℕ × Policy)) (p : Policy) → P.lasts pool.old ≡ true → IsEntry es slot p → SpdStands self.now.area (C.words c.old) s es → PoolFits (P.capacity pool.old) (P.taken pool.old) (P.gives pool.old) (P.takes pool.old) self.now.area.slots (listed_in self.now.area (C.words c.old)) → PoolFits (P.capacity pool.new) (P.taken pool.new) (P.gives pool.new) (P.takes pool.new) self.now.area.slots (listed_in self.now.area (C.words c.new)) }
     {
         if let Some(entry) = (Listing { area: self.area }).found_here(c, slot) {
             self.remove_entry(c, pool, &entry);

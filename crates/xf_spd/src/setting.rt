@@ -5,8 +5,7 @@ ghost use Rattle.xf_types.specs.Changes.{shown_after};
 ghost use Rattle.xf_types.specs.Machine.{Shown};
 ghost use Rattle.xf_types.specs.PolicyRules.{policy_set};
 ghost use Rattle.xf_image.specs.Frames.{Frame};
-ghost use Rattle.xf_image.specs.Layout.{Fits, end_of};
-ghost use Rattle.xf_image.specs.Policies.{PoliciesStand};
+ghost use Rattle.xf_inexact.specs.Whole.{SpdStands, WholeFits, whole_end};
 
 use crate::spd::Spd;
 use xf_cells::Cells;
@@ -16,12 +15,12 @@ use xf_types::Thresholds;
 impl Spd {
     /// Replaces the thresholds that are given. Policies move between the parts, and no answer changes.
     pub fn set<C: Cells>(&self, c: &mut C, t: &Thresholds)
-        requires fits { Fits self.now.area (C.size c.old) }
+        requires fits { WholeFits self.now.area (C.size c.old) }
         ensures size { C.size c.new ≡ C.size c.old }
         ensures begun { C.begun c.new ≡ true }
         ensures rest { C.rest c.new ≡ C.rest c.old }
-        ensures frame { Frame self.now.area.base (end_of self.now.area) (C.words c.old) (C.words c.new) }
-        ensures stands { (s : Shown) (es : List (ℕ × Policy)) → PoliciesStand self.now.area (C.words c.old) s es → PoliciesStand self.now.area (C.words c.new) (shown_after s (policy_set s t.now).change) es }
+        ensures frame { Frame self.now.area.base (whole_end self.now.area) (C.words c.old) (C.words c.new) }
+        ensures stands { (s : Shown) (es : List (ℕ × Policy)) → SpdStands self.now.area (C.words c.old) s es → SpdStands self.now.area (C.words c.new) (shown_after s (policy_set s t.now).change) es }
     {
         let h4 = Listing { area: self.area }.given4(c, t);
         let h6 = Listing { area: self.area }.given6(c, t);

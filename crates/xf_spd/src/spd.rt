@@ -1,5 +1,6 @@
 ghost use Rattle.std.specs.Prelude.{◌≡◌, ◌+◌, ◌*◌, ◌<◌, ◌≤◌, ◌^◌};
-ghost use Rattle.xf_image.specs.Layout.{IsArea, end_of};
+ghost use Rattle.xf_image.specs.Layout.{IsArea};
+ghost use Rattle.xf_inexact.specs.Whole.{whole_end};
 
 use xf_image::PolicyArea;
 
@@ -29,8 +30,8 @@ impl Spd {
 
     /// How many words there are.
     pub fn words(&self) -> u32
-        ensures { self.now.area.base + result ≡ end_of self.now.area }
+        ensures { self.now.area.base + result ≡ whole_end self.now.area }
     {
-        2058 + 111 * self.area.slots
+        2123 + 171 * self.area.slots
     }
 }

@@ -64,7 +64,7 @@ fn gives(
 
 #[test]
 fn worked_rows(rt: HostRuntime) -> Result<(), Fail> {
-    let rows: [(&[&[u8]], &[u8]); 5] = [
+    let rows: [(&[&[u8]], &[u8]); 6] = [
         // equal priorities: the older one first, and an update makes it the younger one
         (
             &[
@@ -97,6 +97,22 @@ fn worked_rows(rt: HostRuntime) -> Result<(), Fail> {
                 FLOW,
             ],
             b"1: ok index 9\n2: ok index 17\n3: policy 17 allow\n",
+        ),
+        // two sources, one in the other, and a third within both for a destination of any address; they leave one after another
+        (
+            &[
+                b"xfrm policy add src 10.0.0.0/8 dst 192.0.2.0/24 dir out priority 5\n",
+                b"xfrm policy add src 10.1.0.0/16 dst 192.0.2.0/24 dir out priority 4\n",
+                b"xfrm policy add src 10.1.2.0/24 dst 0.0.0.0/0 dir out priority 3\n",
+                FLOW,
+                b"xfrm policy delete src 10.1.2.0/24 dst 0.0.0.0/0 dir out\n",
+                FLOW,
+                b"xfrm policy delete src 10.1.0.0/16 dst 192.0.2.0/24 dir out\n",
+                FLOW,
+                b"xfrm policy delete src 10.0.0.0/8 dst 192.0.2.0/24 dir out\n",
+                FLOW,
+            ],
+            b"1: ok index 9\n2: ok index 17\n3: ok index 25\n4: policy 25 allow\n5: ok index 25\n6: policy 17 allow\n7: ok index 17\n8: policy 9 allow\n9: ok index 9\n10: none\n",
         ),
         // other thresholds
         (

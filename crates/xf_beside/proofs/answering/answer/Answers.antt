@@ -3,7 +3,7 @@ use Rattle.xf_types.specs.declared.call.Call.TheVariants.{PolicySet}
 use Rattle.xf_types.specs.Steps.{step}
 use Rattle.xf_image.specs.Readings.{listed_in}
 use Rattle.xf_spd.specs.Slots.{PoolFits}
-use Rattle.xf_beside.specs.Standing.{StandsFor}
+use Rattle.xf_beside.specs.Standing.{StandsFor, Stood}
 use Rattle.xf_beside.proofs.answering.answer.Goals as goal
 
 pub returns-in-PolicySet-clause-stood : goal.returns-in-PolicySet-clause-stood
@@ -18,3 +18,21 @@ returns-in-PolicySet-clause-stood g c =
       for_it = (c.set.ensures.answer c.args.now k.machine st).stands;
       pool = subst (λ (xs : List ℕ). PoolFits (g.P.Pool.capacity c.args.pool.now) (g.P.Pool.taken c.args.pool.now) (g.P.Pool.gives c.args.pool.now) (g.P.Pool.takes c.args.pool.now) a.slots xs) (sym same) k.pool;
     }
+
+pub returns-in-PolicyDelete-clause-stood : goal.returns-in-PolicyDelete-clause-stood
+returns-in-PolicyDelete-clause-stood g c =
+    c.delete.ensures.stood c.args.now
+    (subst (λ (i : List ℕ). Stood c.args.spd.now.area i c.args.now (g.P.Pool.capacity c.args.pool.now) (g.P.Pool.taken c.args.pool.now) (g.P.Pool.gives c.args.pool.now) (g.P.Pool.takes c.args.pool.now))
+    (sym c.is_young.ensures.words) c.requires.stood)
+
+pub returns-in-PolicyDeleteAll-clause-stood : goal.returns-in-PolicyDeleteAll-clause-stood
+returns-in-PolicyDeleteAll-clause-stood g c =
+    c.remove_all.ensures.stood c.args.now
+    (subst (λ (i : List ℕ). Stood c.args.spd.now.area i c.args.now (g.P.Pool.capacity c.args.pool.now) (g.P.Pool.taken c.args.pool.now) (g.P.Pool.gives c.args.pool.now) (g.P.Pool.takes c.args.pool.now))
+    (sym c.is_young.ensures.words) c.requires.stood)
+
+pub returns-in-PolicyFlush-clause-stood : goal.returns-in-PolicyFlush-clause-stood
+returns-in-PolicyFlush-clause-stood g c =
+    c.remove_all-in-PolicyFlush.ensures.stood c.args.now
+    (subst (λ (i : List ℕ). Stood c.args.spd.now.area i c.args.now (g.P.Pool.capacity c.args.pool.now) (g.P.Pool.taken c.args.pool.now) (g.P.Pool.gives c.args.pool.now) (g.P.Pool.takes c.args.pool.now))
+    (sym c.is_young.ensures.words) c.requires.stood)

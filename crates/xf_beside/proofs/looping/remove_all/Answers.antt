@@ -1,6 +1,6 @@
 use Rattle.std.proofs.Common.{◌≡◌, ℕ, List, ◌∷◌, ◌++◌, Option, length, refl, sym, ◌∙◌, subst, rules, arith}
 use Rattle.xf_types.specs.Steps.{step}
-use Rattle.xf_image.specs.Policies.{PoliciesStand}
+use Rattle.xf_inexact.specs.Whole.{SpdStands}
 use Rattle.xf_image.specs.Readings.{listed_in}
 use Rattle.xf_spd.specs.Slots.{PoolFits}
 use Rattle.xf_beside.specs.Leaving.{leaves, call_of}
@@ -17,8 +17,8 @@ slots-init g c =
     let all = c.count-left in
     let w : g.C.Cells.words all.new.c ≡ g.C.Cells.words c.args.c.now = all.ensures.words ∙ first.ensures.words in
     let k = c.requires.stood.1 in
-    let st : PoliciesStand a (g.C.Cells.words first.new.c) k.machine.shown k.for_it.entries =
-    subst (λ (i : List ℕ). PoliciesStand a i k.machine.shown k.for_it.entries) (sym first.ensures.words) k.for_it.stands in
+    let st : SpdStands a (g.C.Cells.words first.new.c) k.machine.shown k.for_it.entries =
+    subst (λ (i : List ℕ). SpdStands a i k.machine.shown k.for_it.entries) (sym first.ensures.words) k.for_it.stands in
     let n : all.result ≡ length k.machine.shown.policies = all.ensures.answer k.machine.shown k.for_it.entries k.for_it.is.shown.room st in
     let r = k.for_it.is.shown.room.policies in
     let q = k.for_it.is.shown.room.max_policies in
@@ -30,7 +30,7 @@ slots-init g c =
       removing = λ s es room old.
           subst (λ (i : List ℕ). Removing a i (leaves c.args.leaving.now) s first.result all.result 0) (sym w)
           (removing_begins a (g.C.Cells.words c.args.c.now) (leaves c.args.leaving.now) s es first.result all.result old (first.ensures.answer s es old)
-          (all.ensures.answer s es room (subst (λ (i : List ℕ). PoliciesStand a i s es) (sym first.ensures.words) old)));
+          (all.ensures.answer s es room (subst (λ (i : List ℕ). SpdStands a i s es) (sym first.ensures.words) old)));
       pool = subst (λ (i : List ℕ). PoolFits (g.P.Pool.capacity c.args.pool.now) (g.P.Pool.taken c.args.pool.now) (g.P.Pool.gives c.args.pool.now) (g.P.Pool.takes c.args.pool.now) a.slots (listed_in a i)) (sym w) k.pool;
     }
 
@@ -66,7 +66,7 @@ slots-preserved g c =
           (λ s2 front back p old. one.ensures.passes s2 front back p
           (subst (λ (i : List ℕ). StandsWith a i s2 (front ++ ((c.in-Some.slot, p) ∷ back))) (sym next.ensures.words) old));
       pool = one.ensures.pool k.shown k.entries k.policy (c.slots.invariant.lasts ∙ c.requires.lasts) k.is
-          (subst (λ (i : List ℕ). PoliciesStand a i k.shown k.entries) (sym next.ensures.words) k.stands)
+          (subst (λ (i : List ℕ). SpdStands a i k.shown k.entries) (sym next.ensures.words) k.stands)
           (subst (λ (i : List ℕ). PoolFits (g.P.Pool.capacity c.slots.pool) (g.P.Pool.taken c.slots.pool) (g.P.Pool.gives c.slots.pool) (g.P.Pool.takes c.slots.pool) a.slots (listed_in a i)) (sym next.ensures.words) c.slots.invariant.pool);
     }
 

@@ -3,7 +3,7 @@ use Rattle.xf_types.specs.declared.policy.Policy.{Policy}
 use Rattle.xf_types.specs.IsMachine.{IsInRoom}
 use Rattle.xf_types.specs.Machine.{Shown}
 use Rattle.xf_chain.specs.Chains.{Below}
-use Rattle.xf_image.specs.Policies.{PoliciesStand}
+use Rattle.xf_inexact.specs.Whole.{SpdStands}
 use Rattle.xf_image.specs.Readings.{listed_in}
 use Rattle.xf_spd.specs.Slots.{PoolFits}
 use Rattle.xf_beside.specs.Leaving.{leaves}
@@ -16,7 +16,7 @@ invariant-slots g l = record {
   lasts : g.P.Pool.lasts l.pool ≡ g.P.Pool.lasts l.fn.pool;
   below : Below l.spd.area.slots l.at;
   few : l.removed + l.left ≤ 4096;
-  removing : (s : Shown) (es : List (ℕ × Policy)) → IsInRoom s → PoliciesStand l.spd.area (g.C.Cells.words l.fn.c) s es → Removing l.spd.area (g.C.Cells.words l.c) (leaves l.leaving) s l.at l.left l.removed;
+  removing : (s : Shown) (es : List (ℕ × Policy)) → IsInRoom s → SpdStands l.spd.area (g.C.Cells.words l.fn.c) s es → Removing l.spd.area (g.C.Cells.words l.c) (leaves l.leaving) s l.at l.left l.removed;
   pool : PoolFits (g.P.Pool.capacity l.pool) (g.P.Pool.taken l.pool) (g.P.Pool.gives l.pool) (g.P.Pool.takes l.pool) l.spd.area.slots (listed_in l.spd.area (g.C.Cells.words l.c));
 }
 

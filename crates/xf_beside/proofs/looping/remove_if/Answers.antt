@@ -2,7 +2,7 @@ use Rattle.std.proofs.Common.{◌≡◌, ℕ, List, ◌∷◌, ◌++◌, true, f
 use Rattle.xf_types.specs.declared.policy.Policy.{Policy}
 use Rattle.xf_index.specs.Indexes.{records_in}
 use Rattle.xf_image.specs.Entries.{with_policies}
-use Rattle.xf_image.specs.Policies.{PoliciesStand}
+use Rattle.xf_inexact.specs.Whole.{SpdStands}
 use Rattle.xf_image.specs.Readings.{listed_in}
 use Rattle.xf_spd.specs.Slots.{PoolFits}
 use Rattle.xf_beside.specs.Leaving.{leaves}
@@ -27,7 +27,7 @@ returns-then-takes-clause-passes g c = λ s front back p st.
 pub returns-then-takes-clause-pool : goal.returns-then-takes-clause-pool
 returns-then-takes-clause-pool g c = λ s es p lasts is st fits.
     let a = c.args.spd.now.area in
-    c.remove.ensures.pool s es p lasts is (subst (λ (i : List ℕ). PoliciesStand a i s es) (sym c.policy.ensures.words) st)
+    c.remove.ensures.pool s es p lasts is (subst (λ (i : List ℕ). SpdStands a i s es) (sym c.policy.ensures.words) st)
     (subst (λ (i : List ℕ). PoolFits (g.P.Pool.capacity c.args.pool.now) (g.P.Pool.taken c.args.pool.now) (g.P.Pool.gives c.args.pool.now) (g.P.Pool.takes c.args.pool.now) a.slots (listed_in a i)) (sym c.policy.ensures.words) fits)
 
 pub returns-else-takes-clause-passes : goal.returns-else-takes-clause-passes

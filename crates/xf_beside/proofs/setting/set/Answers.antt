@@ -7,8 +7,8 @@ use Rattle.xf_beside.proofs.setting.set.Goals as goal
 
 pub returns-clause-slots : goal.returns-clause-slots
 returns-clause-slots g c = λ now m st.
-    listed_is c.args.spd.now.area (g.C.Cells.words c.set.new.c) _ st.entries (c.set.ensures.stands m.shown st.entries st.stands)
-    ∙ sym (listed_is c.args.spd.now.area (g.C.Cells.words c.args.c.now) m.shown st.entries st.stands)
+    listed_is c.args.spd.now.area (g.C.Cells.words c.set.new.c) _ st.entries (c.set.ensures.stands m.shown st.entries st.stands).list
+    ∙ sym (listed_is c.args.spd.now.area (g.C.Cells.words c.args.c.now) m.shown st.entries st.stands.list)
 
 pub returns-clause-answer : goal.returns-clause-answer
 returns-clause-answer g c = λ now m st. record {

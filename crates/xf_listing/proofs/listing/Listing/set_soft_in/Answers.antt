@@ -3,9 +3,10 @@ use Rattle.xf_index.specs.Indexes.{records_in}
 use Rattle.xf_image.specs.Entries.{slot_warned, with_policies}
 use Rattle.xf_image.specs.Frames.{Frame}
 use Rattle.xf_image.specs.Layout.{end_of}
-use Rattle.xf_image.specs.Policies.{PoliciesStand}
 use Rattle.xf_image.specs.Writes.{warned_words}
-use Rattle.xf_image.proofs.Warning.{warned_frame, stands_warned}
+use Rattle.xf_image.proofs.Warning.{warned_frame}
+use Rattle.xf_inexact.specs.Whole.{SpdStands}
+use Rattle.xf_listing.proofs.Changing.{warned_stands}
 use Rattle.xf_listing.proofs.listing.Listing.set_soft_in.Given as given
 use Rattle.xf_listing.proofs.listing.Listing.set_soft_in.Goals as goal
 
@@ -20,5 +21,5 @@ returns-clause-frame g c =
 pub returns-clause-warns : goal.returns-clause-warns
 returns-clause-warns g c = λ s es p is stands.
     let a = c.args.self.now.area in
-    subst (λ (w : List ℕ). PoliciesStand a w (with_policies s (records_in (slot_warned c.args.slot es))) (slot_warned c.args.slot es)) (sym (words g c))
-    (stands_warned a (g.C.Cells.words c.args.c.now) _ s es c.args.slot p c.requires.fits (g.met.C.Cells.all c.args.c.now) is stands)
+    subst (λ (w : List ℕ). SpdStands a w (with_policies s (records_in (slot_warned c.args.slot es))) (slot_warned c.args.slot es)) (sym (words g c))
+    (warned_stands a (g.C.Cells.words c.args.c.now) _ s es c.args.slot p c.requires.fits c.requires.slot (g.met.C.Cells.all c.args.c.now) is stands)

@@ -4,7 +4,7 @@ use Rattle.xf_types.specs.declared.policy.Policy.{Policy}
 use Rattle.xf_types.specs.Changes.{Answer}
 use Rattle.xf_types.specs.Machine.{Shown}
 use Rattle.xf_types.specs.PolicyRules.{policy_add, policy_added_if_room}
-use Rattle.xf_image.specs.Policies.{PoliciesStand}
+use Rattle.xf_inexact.specs.Whole.{SpdStands}
 use Rattle.xf_image.specs.Readings.{listed_in}
 use Rattle.xf_spd.specs.Slots.{PoolFits}
 use Rattle.xf_listing.specs.declared.entry.Entry.{Entry}
@@ -30,16 +30,16 @@ returns-in-Some-clause-plain g c = λ s es none at stands fits. returns-in-Some-
 
 -- ---- none is
 
-rule_is : (g : given.Over) (c : goal.After-add_new g) (s : Shown) (es : List (ℕ × Policy)) → PoliciesStand c.args.self.now.area (g.C.Cells.words c.args.c.now) s es → (m : ℕ)
+rule_is : (g : given.Over) (c : goal.After-add_new g) (s : Shown) (es : List (ℕ × Policy)) → SpdStands c.args.self.now.area (g.C.Cells.words c.args.c.now) s es → (m : ℕ)
     → policy_added_if_room (record s { max_policies = m }) c.args.spec.now ≡ policy_add (record s { max_policies = m }) c.args.spec.now
 rule_is g c s es stands m =
     add_rule (record s { max_policies = m }) c.args.spec.now (sym c.is_bad_index.ensures ∙ c.if-is_bad_index.false)
     (sym (same_found c.args.self.now.area (g.C.Cells.words c.args.c.now) s es c.args.spec.now stands)
     ∙ ap (λ (o : Option Entry). found_policy o) (sym c.same_here.ensures.answer ∙ c.in-None.is))
 
-still : (g : given.Over) (c : goal.After-add_new g) (s : Shown) (es : List (ℕ × Policy)) → PoliciesStand c.args.self.now.area (g.C.Cells.words c.args.c.now) s es
-    → PoliciesStand c.args.self.now.area (g.C.Cells.words c.same_here.new.c) s es
-still g c s es stands = subst (λ (i : List ℕ). PoliciesStand c.args.self.now.area i s es) (sym c.same_here.ensures.words) stands
+still : (g : given.Over) (c : goal.After-add_new g) (s : Shown) (es : List (ℕ × Policy)) → SpdStands c.args.self.now.area (g.C.Cells.words c.args.c.now) s es
+    → SpdStands c.args.self.now.area (g.C.Cells.words c.same_here.new.c) s es
+still g c s es stands = subst (λ (i : List ℕ). SpdStands c.args.self.now.area i s es) (sym c.same_here.ensures.words) stands
 
 fits_still : (g : given.Over) (c : goal.After-add_new g) → PoolFits (g.P.Pool.capacity c.args.pool.now) (g.P.Pool.taken c.args.pool.now) (g.P.Pool.gives c.args.pool.now) (g.P.Pool.takes c.args.pool.now) c.args.self.now.area.slots (listed_in c.args.self.now.area (g.C.Cells.words c.args.c.now))
     → PoolFits (g.P.Pool.capacity c.args.pool.now) (g.P.Pool.taken c.args.pool.now) (g.P.Pool.gives c.args.pool.now) (g.P.Pool.takes c.args.pool.now) c.args.self.now.area.slots (listed_in c.args.self.now.area (g.C.Cells.words c.same_here.new.c))

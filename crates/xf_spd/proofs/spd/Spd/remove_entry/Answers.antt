@@ -11,5 +11,5 @@ returns-clause-pool g c = λ s es lasts is stands fits.
     let cut = entry_cut a (g.C.Cells.words c.args.c.now) s es f.slot f.policy is stands in
     pool_removed _ _ _ _ _ f.slot _ _ _ _ _ _ _ cut.front cut.back c.give.ensures.capacity fits
     (record { less = c.give.ensures.taken; gives_ = c.give.ensures.gives; takes_ = c.give.ensures.takes }) lasts cut.below cut.miss
-    (listed_is a (g.C.Cells.words c.args.c.now) s es stands ∙ cut.whole)
-    (listed_is a (g.C.Cells.words c.delist.new.c) _ _ (c.delist.ensures.delists s es is stands) ∙ cut.left)
+    (listed_is a (g.C.Cells.words c.args.c.now) s es stands.list ∙ cut.whole)
+    (listed_is a (g.C.Cells.words c.delist.new.c) _ _ (c.delist.ensures.delists s es is stands).list ∙ cut.left)

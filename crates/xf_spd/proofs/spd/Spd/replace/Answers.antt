@@ -4,7 +4,7 @@ use Rattle.xf_types.specs.Machine.{Shown}
 use Rattle.xf_types.specs.PolicyList.{is_same, without}
 use Rattle.xf_index.specs.Finds.{Found}
 use Rattle.xf_image.specs.Entries.{entries_without, with_policies}
-use Rattle.xf_image.specs.Policies.{PoliciesStand}
+use Rattle.xf_inexact.specs.Whole.{SpdStands}
 use Rattle.xf_spd.specs.Changes.{IsAt}
 use Rattle.xf_spd.proofs.Alone.{entry_of, same_alone, shorter_order}
 use Rattle.xf_listing.proofs.Loading.{words_kept, answer_kept}
@@ -13,9 +13,9 @@ use Rattle.xf_spd.proofs.spd.Spd.replace.Given as given
 use Rattle.xf_spd.proofs.spd.Spd.replace.Goals as goal
 
 -- what stands once the old policy is gone
-left : (g : given.Over) (c : goal.After-list g) (s : Shown) (es : List (ℕ × Policy)) → IsAt s c.args.now → PoliciesStand c.args.self.now.area (g.C.Cells.words c.args.c.now) s es
+left : (g : given.Over) (c : goal.After-list g) (s : Shown) (es : List (ℕ × Policy)) → IsAt s c.args.now → SpdStands c.args.self.now.area (g.C.Cells.words c.args.c.now) s es
     → Found (λ p. is_same p.spec c.args.spec.now) c.args.entry.now.slot c.args.entry.now.policy es
-    → PoliciesStand c.args.self.now.area (g.C.Cells.words c.delist.new.c) (with_policies s (without (λ p. is_same p.spec c.args.spec.now) s.policies)) (entries_without (λ p. is_same p.spec c.args.spec.now) es)
+    → SpdStands c.args.self.now.area (g.C.Cells.words c.delist.new.c) (with_policies s (without (λ p. is_same p.spec c.args.spec.now) s.policies)) (entries_without (λ p. is_same p.spec c.args.spec.now) es)
 left g c s es at stands f =
     gone_stands c.args.self.now.area (g.C.Cells.words c.args.c.now) (g.C.Cells.words c.delist.new.c) s (λ p. is_same p.spec c.args.spec.now) c.args.entry.now es stands
     (same_alone s c.args.spec.now at.policies) f (c.delist.ensures.delists s es (entry_of (λ p. is_same p.spec c.args.spec.now) c.args.entry.now es f) stands)
@@ -31,5 +31,5 @@ returns-clause-replaces g c = λ s es at stands f.
     replaced_is a (g.C.Cells.words c.list.new.c) s c.args.spec.now c.args.entry.now.policy c.args.entry.now.slot c.kept_word-word.result (entries_without (λ p. is_same p.spec c.args.spec.now) es) n
     (c.list.ensures.lists (with_policies s (without (λ p. is_same p.spec c.args.spec.now) s.policies)) (entries_without (λ p. is_same p.spec c.args.spec.now) es) at.number
     (shorter_order s (λ p. is_same p.spec c.args.spec.now) at.policies) at.time
-    (subst (λ (i : List ℕ). PoliciesStand a i (with_policies s (without (λ p. is_same p.spec c.args.spec.now) s.policies)) (entries_without (λ p. is_same p.spec c.args.spec.now) es)) (sym w) l)
+    (subst (λ (i : List ℕ). SpdStands a i (with_policies s (without (λ p. is_same p.spec c.args.spec.now) s.policies)) (entries_without (λ p. is_same p.spec c.args.spec.now) es)) (sym w) l)
     (gone_misses a (g.C.Cells.words c.args.c.now) s (λ p. is_same p.spec c.args.spec.now) c.args.entry.now es stands (same_alone s c.args.spec.now at.policies) f))

@@ -2,7 +2,7 @@ use Rattle.std.proofs.Common.{◌≡◌, ℕ, List, true, Option, None, Some, ap
 use Rattle.std.specs.Prelude.{is_some}
 use Rattle.xf_index.specs.Indexes.{records_in}
 use Rattle.xf_image.specs.Entries.{IsEntry, slot_warned, with_policies}
-use Rattle.xf_image.specs.Policies.{PoliciesStand}
+use Rattle.xf_inexact.specs.Whole.{SpdStands}
 use Rattle.xf_spd.proofs.Found.{index_slot}
 use Rattle.xf_spd.proofs.spd.Spd.set_soft.Goals as goal
 
@@ -18,8 +18,8 @@ returns-in-Some-clause-stands g c = λ s es slot p is own sound stands.
     let a = c.args.self.now.area in
     let e : slot ≡ c.in-Some.slot =
     same_slot _ _ c.slot_here.result (c.slot_here.ensures.answer ∙ index_slot a (g.C.Cells.words c.args.c.now) s es c.args.index slot p is own sound stands) c.in-Some.is in
-    subst (λ (n : ℕ). PoliciesStand a (g.C.Cells.words c.set_soft_in.new.c) (with_policies s (records_in (slot_warned n es))) (slot_warned n es)) (sym e)
-    (c.set_soft_in.ensures.warns s es p (subst (λ (n : ℕ). IsEntry es n p) e is) (subst (λ (i : List ℕ). PoliciesStand a i s es) (sym c.slot_here.ensures.words) stands))
+    subst (λ (n : ℕ). SpdStands a (g.C.Cells.words c.set_soft_in.new.c) (with_policies s (records_in (slot_warned n es))) (slot_warned n es)) (sym e)
+    (c.set_soft_in.ensures.warns s es p (subst (λ (n : ℕ). IsEntry es n p) e is) (subst (λ (i : List ℕ). SpdStands a i s es) (sym c.slot_here.ensures.words) stands))
 
 pub returns-in_default-clause-begun : goal.returns-in_default-clause-begun
 returns-in_default-clause-begun g c = absurd (none_taken c.slot_here.result c.in_default.is (ap (λ (o : Option ℕ). is_some o) c.slot_here.ensures.answer ∙ c.requires.listed))

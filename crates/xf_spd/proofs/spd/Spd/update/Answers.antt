@@ -7,7 +7,7 @@ use Rattle.xf_types.specs.PolicyList.{is_same}
 use Rattle.xf_types.specs.PolicyRules.{policy_update, policy_added_if_room, policy_replaced_or_added, policy_same_as}
 use Rattle.xf_index.specs.Finds.{Found}
 use Rattle.xf_image.specs.Entries.{new_policy, entries_without}
-use Rattle.xf_image.specs.Policies.{PoliciesStand}
+use Rattle.xf_inexact.specs.Whole.{SpdStands}
 use Rattle.xf_image.specs.Readings.{listed_in}
 use Rattle.xf_spd.specs.Slots.{PoolFits}
 use Rattle.xf_listing.specs.declared.entry.Entry.{Entry}
@@ -23,24 +23,24 @@ use Rattle.xf_spd.proofs.spd.Spd.update.Goals as goal
 
 -- ---- the same policy is listed
 
-own_rule : (g : given.Over) (c : goal.After-replace g) (s : Shown) (es : List (ℕ × Policy)) → PoliciesStand c.args.self.now.area (g.C.Cells.words c.args.c.now) s es
+own_rule : (g : given.Over) (c : goal.After-replace g) (s : Shown) (es : List (ℕ × Policy)) → SpdStands c.args.self.now.area (g.C.Cells.words c.args.c.now) s es
     → policy_replaced_or_added s c.args.spec.now (Some c.in-Some.entry.policy) ≡ policy_update s c.args.spec.now
 own_rule g c s es stands =
     update_rule s c.args.spec.now (Some c.in-Some.entry.policy) (sym c.is_bad_index.ensures ∙ c.if-is_bad_index.false)
     (sym (same_found c.args.self.now.area (g.C.Cells.words c.args.c.now) s es c.args.spec.now stands)
     ∙ ap (λ (o : Option Entry). found_policy o) (sym c.same_here.ensures.answer ∙ c.in-Some.is))
 
-own_found : (g : given.Over) (c : goal.After-replace g) (s : Shown) (es : List (ℕ × Policy)) → PoliciesStand c.args.self.now.area (g.C.Cells.words c.args.c.now) s es
+own_found : (g : given.Over) (c : goal.After-replace g) (s : Shown) (es : List (ℕ × Policy)) → SpdStands c.args.self.now.area (g.C.Cells.words c.args.c.now) s es
     → Found (λ p. is_same p.spec c.args.spec.now) c.in-Some.entry.slot c.in-Some.entry.policy es
 own_found g c s es stands =
     same_between c.args.self.now.area (g.C.Cells.words c.args.c.now) s es c.args.spec.now c.in-Some.entry stands (sym c.same_here.ensures.answer ∙ c.in-Some.is)
 
-own_adds : (g : given.Over) (c : goal.After-replace g) (s : Shown) (es : List (ℕ × Policy)) → IsAt s c.args.now → PoliciesStand c.args.self.now.area (g.C.Cells.words c.args.c.now) s es
+own_adds : (g : given.Over) (c : goal.After-replace g) (s : Shown) (es : List (ℕ × Policy)) → IsAt s c.args.now → SpdStands c.args.self.now.area (g.C.Cells.words c.args.c.now) s es
     → Adds c.args.self.now.area (g.C.Cells.words c.replace.new.c) s (entries_without (λ p. is_same p.spec c.args.spec.now) es) c.in-Some.entry.slot c.replace.result c.args.spec.now (policy_update s c.args.spec.now)
 own_adds g c s es at stands =
     subst (λ (rule : Answer). Adds c.args.self.now.area (g.C.Cells.words c.replace.new.c) s (entries_without (λ p. is_same p.spec c.args.spec.now) es) c.in-Some.entry.slot c.replace.result c.args.spec.now rule)
     (own_rule g c s es stands)
-    (c.replace.ensures.replaces s es at (subst (λ (i : List ℕ). PoliciesStand c.args.self.now.area i s es) (sym c.same_here.ensures.words) stands) (own_found g c s es stands))
+    (c.replace.ensures.replaces s es at (subst (λ (i : List ℕ). SpdStands c.args.self.now.area i s es) (sym c.same_here.ensures.words) stands) (own_found g c s es stands))
 
 pub returns-in-Some-clause-reply : goal.returns-in-Some-clause-reply
 returns-in-Some-clause-reply g c = λ s es at stands fits. sym (own_adds g c s es at stands).reply
@@ -61,19 +61,19 @@ returns-in-Some-clause-pool g c = λ s es lasts at stands fits.
 
 -- ---- none is
 
-none_is : (g : given.Over) (c : goal.After-add_new g) (s : Shown) (es : List (ℕ × Policy)) → PoliciesStand c.args.self.now.area (g.C.Cells.words c.args.c.now) s es → policy_same_as s c.args.spec.now ≡ None
+none_is : (g : given.Over) (c : goal.After-add_new g) (s : Shown) (es : List (ℕ × Policy)) → SpdStands c.args.self.now.area (g.C.Cells.words c.args.c.now) s es → policy_same_as s c.args.spec.now ≡ None
 none_is g c s es stands =
     sym (same_found c.args.self.now.area (g.C.Cells.words c.args.c.now) s es c.args.spec.now stands)
     ∙ ap (λ (o : Option Entry). found_policy o) (sym c.same_here.ensures.answer ∙ c.in-None.is)
 
-rule_is : (g : given.Over) (c : goal.After-add_new g) (s : Shown) (es : List (ℕ × Policy)) → PoliciesStand c.args.self.now.area (g.C.Cells.words c.args.c.now) s es → (m : ℕ)
+rule_is : (g : given.Over) (c : goal.After-add_new g) (s : Shown) (es : List (ℕ × Policy)) → SpdStands c.args.self.now.area (g.C.Cells.words c.args.c.now) s es → (m : ℕ)
     → policy_added_if_room (record s { max_policies = m }) c.args.spec.now ≡ policy_update (record s { max_policies = m }) c.args.spec.now
 rule_is g c s es stands m =
     update_rule (record s { max_policies = m }) c.args.spec.now None (sym c.is_bad_index.ensures ∙ c.if-is_bad_index.false) (none_is g c s es stands)
 
-still : (g : given.Over) (c : goal.After-add_new g) (s : Shown) (es : List (ℕ × Policy)) → PoliciesStand c.args.self.now.area (g.C.Cells.words c.args.c.now) s es
-    → PoliciesStand c.args.self.now.area (g.C.Cells.words c.same_here.new.c) s es
-still g c s es stands = subst (λ (i : List ℕ). PoliciesStand c.args.self.now.area i s es) (sym c.same_here.ensures.words) stands
+still : (g : given.Over) (c : goal.After-add_new g) (s : Shown) (es : List (ℕ × Policy)) → SpdStands c.args.self.now.area (g.C.Cells.words c.args.c.now) s es
+    → SpdStands c.args.self.now.area (g.C.Cells.words c.same_here.new.c) s es
+still g c s es stands = subst (λ (i : List ℕ). SpdStands c.args.self.now.area i s es) (sym c.same_here.ensures.words) stands
 
 fits_still : (g : given.Over) (c : goal.After-add_new g) → PoolFits (g.P.Pool.capacity c.args.pool.now) (g.P.Pool.taken c.args.pool.now) (g.P.Pool.gives c.args.pool.now) (g.P.Pool.takes c.args.pool.now) c.args.self.now.area.slots (listed_in c.args.self.now.area (g.C.Cells.words c.args.c.now))
     → PoolFits (g.P.Pool.capacity c.args.pool.now) (g.P.Pool.taken c.args.pool.now) (g.P.Pool.gives c.args.pool.now) (g.P.Pool.takes c.args.pool.now) c.args.self.now.area.slots (listed_in c.args.self.now.area (g.C.Cells.words c.same_here.new.c))
