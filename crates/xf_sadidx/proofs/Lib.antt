@@ -1,0 +1,9 @@
+pub mod Layouts
+pub mod KeyLaws
+pub mod AskedLaws
+pub mod Reverses
+pub mod FoundLaws
+pub mod Runs
+pub mod BestLaws
+pub mod Turned
+pub mod Comings
