@@ -1,0 +1,14 @@
+pub mod Folds
+pub mod ImageSeats
+pub mod ImageTurns
+pub mod ImageOpenings
+pub mod ImageDraws
+pub mod ImageReads
+pub mod ImageSayings
+pub mod Held
+pub mod PinSeats
+pub mod PinStores
+pub mod PinWords
+pub mod PinReads
+pub mod PinRest
+pub mod Beginnings

@@ -1,0 +1,8 @@
+use Rattle.xf_invariant.proofs.PinRest.{take_keeps_pins, miss_keeps_pins}
+use Rattle.xf_invariant.proofs.pin_laws.take_turn_keeps_pins.Goals as goal
+
+pub returns : goal.returns
+returns g c = record {
+  taken = λ most base w slot listed. take_keeps_pins w.policies w.slots g.T.Means.id_place most w.scene.made w.scene.numbers w.scene.owners w.scene.log w.scene.words w.scene.settled w.pins w.scene.views w.scene.turn w.pin_part w.scene.seat w.scene.view w.scene.there w.scene.here slot listed;
+  missed = λ most base w. miss_keeps_pins w.policies w.slots g.T.Means.id_place most w.scene.made w.scene.numbers w.scene.owners w.scene.log w.scene.words w.scene.settled w.pins w.scene.views w.scene.turn w.pin_part w.scene.seat w.scene.view w.scene.there w.scene.here;
+}

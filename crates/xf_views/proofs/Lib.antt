@@ -1,0 +1,13 @@
+pub mod Lists
+pub mod Logs
+pub mod Late
+pub mod Counts
+pub mod Fronts
+pub mod Seats
+pub mod Tickets
+pub mod Openings
+pub mod Draws
+pub mod Generations
+pub mod Quiet
+pub mod Sayings
+pub mod Beginnings
