@@ -26,6 +26,8 @@ pub use reader::{Item, Reader, Unread};
 #[cfg(test)]
 mod tests;
 #[cfg(test)]
+mod tests_bad;
+#[cfg(test)]
 mod tests_bad_policies;
 #[cfg(test)]
 mod tests_bad_requests;
