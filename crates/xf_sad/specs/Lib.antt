@@ -1,2 +1,4 @@
 pub mod Replies
-pub mod Listed
+pub mod Slots
+pub mod Changes
+pub mod Lookups

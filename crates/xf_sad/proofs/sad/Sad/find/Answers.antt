@@ -1,4 +1,4 @@
-use Rattle.std.proofs.Common.{ℕ, ◌+◌, ◌*◌, ◌≤◌, ◌∙◌, List, ap, arith}
+use Rattle.std.proofs.Common.{◌∙◌, ap, arith}
 use Rattle.xf_resize.specs.Rooms.{StatesChained}
 use Rattle.xf_sadimage.specs.States.{StatesStand}
 use Rattle.xf_sad.specs.Replies.{found_reply}

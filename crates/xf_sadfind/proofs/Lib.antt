@@ -1,0 +1,10 @@
+pub mod Orders
+pub mod Asks
+pub mod Tries
+pub mod Readings
+pub mod Besides
+pub mod Guesses
+pub mod Listings
+pub mod Ways
+pub mod Meetings
+pub mod Wanted

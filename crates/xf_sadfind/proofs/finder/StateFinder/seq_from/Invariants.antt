@@ -1,0 +1,24 @@
+use Rattle.std.proofs.Common.{◌≡◌, ℕ, ◌+◌, ◌-◌, ◌*◌, ◌≤◌, List}
+use Rattle.std.specs.List.{list_any}
+use Rattle.xf_types.specs.declared.state.Sa.{Sa}
+use Rattle.xf_types.specs.Counters.{first_free}
+use Rattle.xf_types.specs.FlowRules.{last_seq}
+use Rattle.xf_cells.specs.Words.{Narrows}
+use Rattle.xf_index.specs.Indexes.{records_in}
+use Rattle.xf_sadidx.specs.Queries.{has_seq}
+use Rattle.xf_sadidx.specs.Standing.{StatesIndexed, RecordsStand}
+use Rattle.xf_sadfind.proofs.finder.StateFinder.seq_from.Given as goal
+
+-- the search from here on finds what the search from the start finds
+abbrev pub invariant-numbers : goal.invariant-numbers
+invariant-numbers g l = record {
+  size : g.L.Load.size l.l ≡ g.L.Load.size l.fn.l;
+  begun : g.L.Load.begun l.l ≡ g.L.Load.begun l.fn.l;
+  rest : g.L.Load.rest l.l ≡ g.L.Load.rest l.fn.l;
+  among : Narrows (g.L.Load.agrees l.fn.l) (g.L.Load.agrees l.l);
+  most : g.L.Load.loads l.l ≤ g.L.Load.loads l.fn.l + (4 + 50 * l.self.area.slots) * l._tried;
+  some : 1 ≤ l.seq;
+  state : (image : List ℕ) (entries : List (ℕ × Sa)) → g.L.Load.agrees l.l image → StatesIndexed l.self.area image entries → RecordsStand l.self.area image entries
+      → first_free (λ seq. list_any (has_seq seq) (records_in entries)) last_seq l.seq (l.tries - l._tried)
+      ≡ first_free (λ seq. list_any (has_seq seq) (records_in entries)) last_seq l.from l.tries;
+}

@@ -1,0 +1,5 @@
+pub mod Slots
+pub mod Replaced
+pub mod Tried
+pub mod Paths
+pub mod FindLaws

@@ -1,0 +1,4 @@
+pub mod Tallies
+pub mod Comings
+pub mod Leavings
+pub mod Rewritings
