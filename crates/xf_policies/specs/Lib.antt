@@ -1,0 +1,4 @@
+pub mod Answers
+pub mod Sweeps
+pub mod Standing
+pub mod Visits
