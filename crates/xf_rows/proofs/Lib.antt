@@ -1,0 +1,12 @@
+pub mod Lists
+pub mod Keeping
+pub mod Valued
+pub mod Leaving
+pub mod Coming
+pub mod Changing
+pub mod Later
+pub mod Finding
+pub mod Telling
+pub mod Treating
+pub mod Reading
+pub mod Beginning

@@ -1,0 +1,17 @@
+pub mod Rows
+pub mod Values
+pub mod Layouts
+pub mod Stands
+pub mod Changes
+pub mod Ticks
+pub mod Finds
+pub mod Fates
+pub mod Replies
+pub mod Readings
+pub mod PlaceLaws
+pub mod RowLaws
+pub mod LookupLaws
+pub mod TrafficLaws
+pub mod TimeLaws
+pub mod ReplyLaws
+pub mod ShownLaws
