@@ -1,0 +1,12 @@
+pub mod Kept
+pub mod Rows
+pub mod Others
+pub mod Standing
+pub mod Replied
+pub mod Swept
+pub mod Read
+pub mod Refused
+pub mod Come
+pub mod Renewed
+pub mod Named
+pub mod Picked

@@ -1,0 +1,16 @@
+use Rattle.xf_statecalls.proofs.updating.update_here.Goals as goal
+
+pub returns-clause-hidden : goal.returns-clause-hidden
+returns-clause-hidden g c = g.met.D.Parts.kept_hidden c.update.new.c c.args.parts.now c.update.ensures.rest
+
+pub returns-clause-beside : goal.returns-clause-beside
+returns-clause-beside g c = g.met.D.Parts.kept c.update.new.c c.args.parts.now c.update.ensures.rest
+
+pub returns-clause-reply : goal.returns-clause-reply
+returns-clause-reply g c = λ s es at st fits. c.update.ensures.reply s es at st fits
+
+pub returns-clause-comes : goal.returns-clause-comes
+returns-clause-comes g c = λ s es slot old is larval at st fits. c.update.ensures.larval s es slot old is larval at st fits
+
+pub returns-clause-pool : goal.returns-clause-pool
+returns-clause-pool g c = λ s es lasts at st fits. c.update.ensures.pool s es lasts at st fits

@@ -1,0 +1,5 @@
+pub mod Tells
+pub mod Ages
+pub mod Places
+pub mod Passed
+pub mod Quiet

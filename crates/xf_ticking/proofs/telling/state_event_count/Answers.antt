@@ -1,0 +1,87 @@
+use Rattle.std.proofs.Common.{◌≡◌, ℕ, ◌+◌, List, ◌∷◌, ◌++◌, Option, length, refl, ap, sym, ◌∙◌, subst, arith}
+use Rattle.xf_types.specs.declared.call.Event.{Event}
+use Rattle.xf_sadimage.specs.States.{StatesStand}
+use Rattle.xf_local.specs.View.{event_of}
+use Rattle.xf_rows.specs.Rows.{entries_in}
+use Rattle.xf_rows.specs.Values.{Beside, at}
+use Rattle.xf_rows.proofs.Later.{events_are}
+use Rattle.xf_ticking.specs.Walks.{Telling}
+use Rattle.xf_ticking.proofs.Tells.{telling_begins, telling_goes, telling_ends, telling_stops, count_more}
+use Rattle.xf_ticking.proofs.telling.state_event_count.Goals as goal
+
+pub slots-init : goal.slots-init
+slots-init g c =
+    let first = c.first_slot-at in
+    record {
+      size = first.ensures.size;
+      begun = first.ensures.begun;
+      words = first.ensures.words;
+      hidden = first.ensures.hidden;
+      beside = first.ensures.beside;
+      below = first.ensures.below;
+      few = omega arith;
+      telling = λ s es st.
+          telling_begins c.args.layout.now.states (g.D.Cells.words c.args.parts.now) c.args.now (g.D.Parts.beside c.args.parts.now) s es first.result
+          (λ (xs : List Event). 0 ≡ length xs) st (first.ensures.answer s es st) refl;
+    }
+
+pub slots-preserved : goal.slots-preserved
+slots-preserved g c =
+    let a = c.args.layout.now.states in
+    let b : Beside = g.D.Parts.beside c.args.parts.now in
+    let k = c.slots.invariant in
+    let heard = c.event-event in
+    let one = c.one_if-count in
+    let next = c.next_slot-at in
+    let few = k.few in
+    let small = one.ensures.few in
+    let t = c.slots-test.true in
+    let w : g.D.Cells.words heard.new.self ≡ g.D.Cells.words c.args.parts.now = heard.ensures.words ∙ k.words in
+    record {
+      size = next.ensures.size ∙ (heard.ensures.size ∙ k.size);
+      begun = next.ensures.begun ∙ (heard.ensures.begun ∙ k.begun);
+      words = next.ensures.words ∙ w;
+      hidden = next.ensures.hidden ∙ (heard.ensures.hidden ∙ k.hidden);
+      beside = next.ensures.beside ∙ (heard.ensures.beside ∙ k.beside);
+      below = next.ensures.below;
+      few = omega (arith, few, small, t);
+      telling = λ s es st.
+          telling_goes a (g.D.Cells.words c.args.parts.now) c.args.now b s es c.in-Some.slot next.result c.slots.left
+          (λ (xs : List Event). c.slots.count ≡ length xs) (λ (xs : List Event). c.slots.count + one.result ≡ length xs) st
+          (subst (λ (o : Option ℕ). Telling c.args.now b es o c.slots.left (λ (xs : List Event). c.slots.count ≡ length xs)) c.in-Some.is (k.telling s es st))
+          (λ t front back r there. next.ensures.answer t front back r
+          (subst (λ (i : List ℕ). StatesStand a i t (front ++ ((c.in-Some.slot, r) ∷ back))) (sym w) there))
+          (λ xs counted. count_more c.slots.count one.result heard.result (event_of c.args.now (at b c.in-Some.slot)) xs
+          (heard.ensures.event ∙ ap (λ (x : Beside). event_of c.args.now (at x c.in-Some.slot)) k.beside) one.ensures.is counted);
+    }
+
+pub returns-in_default-clause-answer : goal.returns-in_default-clause-answer
+returns-in_default-clause-answer g c = λ m r.
+    let b : Beside = g.D.Parts.beside c.args.parts.now in
+    telling_stops c.args.now b (entries_in r.rows) c.slots.at c.slots.left (λ (xs : List Event). c.slots.count ≡ length xs) c.in_default.is
+    (c.slots.invariant.telling m.shown (entries_in r.rows) r.on_states)
+    ∙ ap (λ (xs : List Event). length xs) (events_are c.args.layout.now (g.D.Cells.words c.args.parts.now) b m c.args.now r c.requires.turns)
+
+pub returns-clause-answer : goal.returns-clause-answer
+returns-clause-answer g c = λ m r.
+    let b : Beside = g.D.Parts.beside c.args.parts.now in
+    let f = c.slots-test.false in
+    telling_ends c.args.now b (entries_in r.rows) c.slots.at c.slots.left (λ (xs : List Event). c.slots.count ≡ length xs) (omega (arith, f))
+    (c.slots.invariant.telling m.shown (entries_in r.rows) r.on_states)
+    ∙ ap (λ (xs : List Event). length xs) (events_are c.args.layout.now (g.D.Cells.words c.args.parts.now) b m c.args.now r c.requires.turns)
+
+pub returns-in_default-clause-counts : goal.returns-in_default-clause-counts
+returns-in_default-clause-counts g c = record {
+  is = λ s es st.
+      telling_stops c.args.now (g.D.Parts.beside c.args.parts.now) es c.slots.at c.slots.left (λ (xs : List Event). c.slots.count ≡ length xs) c.in_default.is
+      (c.slots.invariant.telling s es st);
+}
+
+pub returns-clause-counts : goal.returns-clause-counts
+returns-clause-counts g c =
+    let f = c.slots-test.false in
+    record {
+      is = λ s es st.
+          telling_ends c.args.now (g.D.Parts.beside c.args.parts.now) es c.slots.at c.slots.left (λ (xs : List Event). c.slots.count ≡ length xs) (omega (arith, f))
+          (c.slots.invariant.telling s es st);
+    }

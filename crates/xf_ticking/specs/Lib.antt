@@ -1,0 +1,5 @@
+pub mod Counted
+pub mod Dues
+pub mod Ready
+pub mod Told
+pub mod Walks

@@ -1,0 +1,33 @@
+use Rattle.std.proofs.Common.{ℕ, List, sym, ◌∙◌, subst}
+use Rattle.xf_rows.specs.Rows.{entries_in}
+use Rattle.xf_rows.specs.Stands.{Stands}
+use Rattle.xf_rows.specs.Values.{Beside}
+use Rattle.xf_traffic.proofs.Acquired.{flow_answers}
+use Rattle.xf_traffic.proofs.Followed.{others_same}
+use Rattle.xf_traffic.proofs.flows.flow.Goals as goal
+
+pub returns-in-Answered-clause-others : goal.returns-in-Answered-clause-others
+returns-in-Answered-clause-others g c =
+    others_same c.args.layout.now (g.D.Parts.hidden c.args.parts.now) (g.D.Cells.words c.args.parts.now) (g.D.Cells.words c.ask_here.new.parts)
+    (g.D.Parts.beside c.args.parts.now) (g.D.Parts.beside c.ask_here.new.parts) c.ask_here.ensures.words c.ask_here.ensures.beside
+
+pub returns-in-Answered-clause-answer : goal.returns-in-Answered-clause-answer
+returns-in-Answered-clause-answer g c = λ m st.
+    let policies = st.machine.shown.policies in
+    flow_answers c.args.layout.now (g.D.Cells.words c.args.parts.now) (g.D.Cells.words c.ask_here.new.parts) (g.D.Parts.beside c.args.parts.now)
+    (g.D.Parts.beside c.ask_here.new.parts) m c.args.flow.now c.in-Answered.reply st
+    (c.in-Answered.ensures.answer m.shown st.policies (entries_in st.rows) policies.ordered st.on_policies st.on_states)
+    c.ask_here.ensures.words c.ask_here.ensures.beside
+
+pub returns-in-Wants-clause-answer : goal.returns-in-Wants-clause-answer
+returns-in-Wants-clause-answer g c = λ m st.
+    let policies = st.machine.shown.policies in
+    c.acquire-reply.ensures.answer m c.args.flow.now
+    (subst (λ (b : Beside). Stands c.args.layout.now (g.D.Cells.words c.ask_here.new.parts) b m) (sym c.ask_here.ensures.beside)
+    (subst (λ (w : List ℕ). Stands c.args.layout.now w (g.D.Parts.beside c.args.parts.now) m) (sym c.ask_here.ensures.words) st))
+    (c.in-Wants.ensures.answer m.shown st.policies (entries_in st.rows) policies.ordered st.on_policies st.on_states)
+
+pub returns-in-Wants-clause-idle : goal.returns-in-Wants-clause-idle
+returns-in-Wants-clause-idle g c = λ still.
+    let d = c.acquire-reply.ensures.idle still in
+    record { words = d.words ∙ c.ask_here.ensures.words; values = d.values ∙ c.ask_here.ensures.beside; begun = d.begun ∙ c.ask_here.ensures.begun }

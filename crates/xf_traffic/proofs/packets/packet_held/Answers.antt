@@ -1,0 +1,89 @@
+use Rattle.std.proofs.Common.{◌≡◌, ℕ, List, length, ap, sym, ◌∙◌, subst, ◌⊎◌, inl, inr}
+use Rattle.xf_types.specs.Moves.{says_soft}
+use Rattle.xf_types.specs.StateList.{has_id, last_of}
+use Rattle.xf_types.specs.TrafficRules.{id_of_packet}
+use Rattle.xf_local.specs.declared.answer.Inbound.{Inbound}
+use Rattle.xf_local.specs.declared.answer.Inbound.TheVariants as inward
+use Rattle.xf_local.specs.Alone.{Inward}
+use Rattle.xf_local.specs.Answering.{IsDead, WantsTurn, inward_shown}
+use Rattle.xf_rows.specs.Fates.{says_ended}
+use Rattle.xf_rows.specs.Layouts.{Fits}
+use Rattle.xf_rows.specs.Values.{at}
+use Rattle.xf_sad.specs.Slots.{PoolFits, listed_in}
+use Rattle.xf_traffic.specs.Following.{Follows}
+use Rattle.xf_traffic.specs.Found.{HasState}
+use Rattle.xf_traffic.proofs.Listed.{latest_listed, at_latest, takes_back}
+use Rattle.xf_traffic.proofs.Followed.{packet_done, settled_ours, not_dead, others_followed, others_put}
+use Rattle.xf_traffic.proofs.packets.packet_held.Given as given
+use Rattle.xf_traffic.proofs.packets.packet_held.Goals as goal
+
+pub follow-requires-clause-listed : goal.follow-requires-clause-listed
+follow-requires-clause-listed g c =
+    subst (λ (w : List ℕ). HasState c.args.layout.now.states w c.args.slot) (sym c.receive.ensures.words)
+    (latest_listed c.args.layout.now (g.D.Cells.words c.args.parts.now) (g.D.Parts.beside c.args.parts.now) (has_id (id_of_packet c.args.packet.now)) c.args.slot
+    c.requires.stands c.requires.found)
+
+pub follow-requires-clause-back : goal.follow-requires-clause-back
+follow-requires-clause-back g c =
+    takes_back c.args.layout.now.states (g.D.Cells.words c.args.parts.now) c.args.slot (g.P.Pool.capacity c.args.pool.now) (g.P.Pool.taken c.args.pool.now)
+    (g.P.Pool.gives c.args.pool.now) (g.P.Pool.takes c.args.pool.now)
+    (latest_listed c.args.layout.now (g.D.Cells.words c.args.parts.now) (g.D.Parts.beside c.args.parts.now) (has_id (id_of_packet c.args.packet.now)) c.args.slot
+    c.requires.stands c.requires.found)
+    c.requires.pool
+
+follows : (g : given.Over) (c : goal.After-follow g)
+    → Follows c.args.layout.now.states (g.D.Parts.hidden c.args.parts.now) c.args.slot (says_ended c.in-Answer.reply) (says_soft c.in-Answer.reply)
+    (g.D.Cells.words c.receive.new.self) (g.D.Cells.words c.follow.new.parts)
+follows g c =
+    subst (λ (n : ℕ). Follows c.args.layout.now.states n c.args.slot (says_ended c.in-Answer.reply) (says_soft c.in-Answer.reply)
+    (g.D.Cells.words c.receive.new.self) (g.D.Cells.words c.follow.new.parts)) c.receive.ensures.hidden c.follow.ensures.follows
+
+fits : (g : given.Over) (c : goal.After-follow g) → Fits c.args.layout.now (length (g.D.Cells.words c.args.parts.now))
+fits g c = subst (λ (n : ℕ). Fits c.args.layout.now n) (sym (g.met.D.Cells.all c.args.parts.now)) c.requires.fits
+
+pub returns-in-Answer-clause-others : goal.returns-in-Answer-clause-others
+returns-in-Answer-clause-others g c =
+    others_followed c.args.layout.now (g.D.Parts.hidden c.args.parts.now) c.args.slot (says_ended c.in-Answer.reply) (says_soft c.in-Answer.reply)
+    (g.D.Cells.words c.args.parts.now) (g.D.Cells.words c.receive.new.self) (g.D.Cells.words c.follow.new.parts) (g.D.Parts.beside c.args.parts.now) (g.D.Parts.beside c.follow.new.parts)
+    (at (g.D.Parts.beside c.receive.new.self) c.args.slot) (fits g c) c.requires.behind c.receive.ensures.words (follows g c)
+    (c.follow.ensures.beside ∙ c.receive.ensures.beside)
+
+pub returns-in-Answer-clause-settled : goal.returns-in-Answer-clause-settled
+returns-in-Answer-clause-settled g c =
+    settled_ours (at (g.D.Parts.beside c.args.parts.now) c.args.slot) (Inward c.args.packet.now) c.in-Answer.reply c.in-Answer.ensures.settles.answer
+
+pub returns-in-Answer-clause-idle : goal.returns-in-Answer-clause-idle
+returns-in-Answer-clause-idle g c = λ lives calm.
+    let d = c.follow.ensures.idle lives calm in record { words = d.words ∙ c.receive.ensures.words; begun = d.begun ∙ c.receive.ensures.begun }
+
+pub returns-in-Answer-clause-answer : goal.returns-in-Answer-clause-answer
+returns-in-Answer-clause-answer g c = λ m st.
+    packet_done c.args.layout.now (g.D.Cells.words c.args.parts.now) (g.D.Cells.words c.receive.new.self) (g.D.Cells.words c.follow.new.parts) (g.D.Parts.beside c.args.parts.now)
+    (g.D.Parts.beside c.follow.new.parts) m c.args.packet.now c.args.slot (g.D.Parts.hidden c.args.parts.now) (at (g.D.Parts.beside c.receive.new.self) c.args.slot) c.in-Answer.reply
+    st c.requires.found (fits g c) c.requires.behind c.requires.held c.in-Answer.ensures.settles c.receive.ensures.words (follows g c)
+    (c.follow.ensures.beside ∙ c.receive.ensures.beside)
+
+pub returns-in-Dead-clause-others : goal.returns-in-Dead-clause-others
+returns-in-Dead-clause-others g c =
+    others_put c.args.layout.now (g.D.Parts.hidden c.args.parts.now) c.args.slot (g.D.Cells.words c.args.parts.now) (g.D.Cells.words c.receive.new.self)
+    (g.D.Parts.beside c.args.parts.now) (g.D.Parts.beside c.receive.new.self) (at (g.D.Parts.beside c.receive.new.self) c.args.slot) c.receive.ensures.words c.receive.ensures.beside
+
+pub returns-in-Dead-clause-idle : goal.returns-in-Dead-clause-idle
+returns-in-Dead-clause-idle g c = λ lives calm. record { words = c.receive.ensures.words; begun = c.receive.ensures.begun }
+
+pub returns-in-Dead-clause-pool : goal.returns-in-Dead-clause-pool
+returns-in-Dead-clause-pool g c = λ lasts.
+    subst (λ (w : List ℕ). PoolFits (g.P.Pool.capacity c.args.pool.now) (g.P.Pool.taken c.args.pool.now) (g.P.Pool.gives c.args.pool.now) (g.P.Pool.takes c.args.pool.now)
+    c.args.layout.now.states.slots (listed_in c.args.layout.now.states w)) (sym c.receive.ensures.words) c.requires.pool
+
+idle : (r : Inbound) → (r ≡ inward.Dead) ⊎ (r ≡ inward.NeedsTurn) → (inward_shown r ≡ IsDead) ⊎ (inward_shown r ≡ WantsTurn)
+idle r (inl e) = inl (ap (λ (x : Inbound). inward_shown x) e)
+idle r (inr e) = inr (ap (λ (x : Inbound). inward_shown x) e)
+
+pub returns-in-Dead-clause-answer : goal.returns-in-Dead-clause-answer
+returns-in-Dead-clause-answer g c = λ m st.
+    let b = g.D.Parts.beside c.args.parts.now in
+    let test = has_id (id_of_packet c.args.packet.now) in
+    absurd (not_dead b m st.rows test c.args.slot (last_of test m.shown.states) (Inward c.args.packet.now)
+    (at_latest c.args.layout.now (g.D.Cells.words c.args.parts.now) b m test c.args.slot st c.requires.found) c.requires.held
+    (inward_shown c.receive.result) (idle c.receive.result c.in-Dead.is) c.receive.ensures.settles.answer)

@@ -1,0 +1,93 @@
+//! Outputs of states.
+ghost use Rattle.std.specs.Prelude.{◌≡◌, ℕ, ◌<◌, ◌≤◌, Bool, true, false, Some};
+ghost use Rattle.xf_types.specs.declared.call.Call.TheVariants as call;
+ghost use Rattle.xf_types.specs.History.{is_contended};
+ghost use Rattle.xf_types.specs.Machine.{Machine};
+ghost use Rattle.xf_types.specs.Moves.{says_soft};
+ghost use Rattle.xf_types.specs.StateList.{has_sid};
+ghost use Rattle.xf_chain.specs.Chains.{Below};
+ghost use Rattle.xf_sad.specs.Slots.{PoolFits, listed_in};
+ghost use Rattle.xf_rows.specs.Fates.{says_ended};
+ghost use Rattle.xf_rows.specs.Layouts.{Fits};
+ghost use Rattle.xf_rows.specs.Replies.{Answers};
+ghost use Rattle.xf_rows.specs.Stands.{Stands};
+ghost use Rattle.xf_traffic.specs.Following.{IsIdle};
+ghost use Rattle.xf_traffic.specs.Found.{IsFirst};
+ghost use Rattle.xf_statecalls.specs.Ready.{Stood, LeavesOthers};
+
+use crate::following::follow;
+use crate::lookups::output_slot_here;
+use xf_cells::{Cells, Load, Pool};
+use xf_local::Outbound;
+use xf_parts::Parts;
+use xf_rows::Layout;
+use xf_types::Reply;
+
+/// An output of so many bytes from the state in a slot, which has the state id and whose turn is held. The pool takes the slot back where the
+/// state ends.
+pub fn output_held<D: Parts, P: Pool>(
+    layout: &Layout,
+    parts: &mut D,
+    pool: &mut P,
+    slot: u32,
+    sid: u64,
+    len: u32,
+) -> Reply
+    requires fits { Fits layout.now (D.size parts.old) }
+    requires behind { D.hidden parts.old ≤ layout.now.policies.base }
+    requires stands { Stood layout.now (D.words parts.old) (D.beside parts.old) }
+    requires pool { PoolFits (P.capacity pool.old) (P.taken pool.old) (P.gives pool.old) (P.takes pool.old) layout.now.states.slots (listed_in layout.now.states (D.words parts.old)) }
+    requires slot { slot < layout.now.states.slots }
+    requires held { (D.beside parts.old).held slot ≡ true }
+    requires found { IsFirst layout.now.states (D.words parts.old) (has_sid sid) (Some slot) }
+    ensures size { D.size parts.new ≡ D.size parts.old }
+    ensures hidden { D.hidden parts.new ≡ D.hidden parts.old }
+    ensures capacity { P.capacity pool.new ≡ P.capacity pool.old }
+    ensures lasts { P.lasts pool.new ≡ P.lasts pool.old }
+    ensures waiting { P.held pool.new ≡ P.held pool.old }
+    ensures others { LeavesOthers layout.now (D.hidden parts.old) (D.words parts.old) (D.words parts.new) (D.beside parts.old) (D.beside parts.new) }
+    ensures settled { is_contended result ≡ false }
+    ensures idle { says_ended result ≡ false → says_soft result ≡ false → IsIdle (D.words parts.old) (D.words parts.new) (D.begun parts.old) (D.begun parts.new) }
+    ensures answer { (m : Machine) → Stands layout.now (D.words parts.old) (D.beside parts.old) m → Answers layout.now (D.words parts.new) (D.beside parts.new) m (call.Output sid len) result }
+    ensures pool { P.lasts pool.old ≡ true → PoolFits (P.capacity pool.new) (P.taken pool.new) (P.gives pool.new) (P.takes pool.new) layout.now.states.slots (listed_in layout.now.states (D.words parts.new)) }
+{
+    match parts.send(slot, len) {
+        Outbound::Answer(reply) => {
+            follow(layout, parts, pool, slot, &reply);
+            reply
+        }
+        Outbound::Dead | Outbound::NeedsTurn => Reply::Stale,
+    }
+}
+
+/// An output of so many bytes from the state with a state id. Stale where there is none. All turns are held.
+pub fn output<D: Parts, P: Pool>(
+    layout: &Layout,
+    parts: &mut D,
+    pool: &mut P,
+    sid: u64,
+    len: u32,
+    guess: Option<u32>,
+) -> Reply
+    requires fits { Fits layout.now (D.size parts.old) }
+    requires behind { D.hidden parts.old ≤ layout.now.policies.base }
+    requires stands { Stood layout.now (D.words parts.old) (D.beside parts.old) }
+    requires pool { PoolFits (P.capacity pool.old) (P.taken pool.old) (P.gives pool.old) (P.takes pool.old) layout.now.states.slots (listed_in layout.now.states (D.words parts.old)) }
+    requires guess { Below layout.now.states.slots guess }
+    requires held { (slot : ℕ) → (D.beside parts.old).held slot ≡ true }
+    ensures size { D.size parts.new ≡ D.size parts.old }
+    ensures hidden { D.hidden parts.new ≡ D.hidden parts.old }
+    ensures capacity { P.capacity pool.new ≡ P.capacity pool.old }
+    ensures lasts { P.lasts pool.new ≡ P.lasts pool.old }
+    ensures waiting { P.held pool.new ≡ P.held pool.old }
+    ensures others { LeavesOthers layout.now (D.hidden parts.old) (D.words parts.old) (D.words parts.new) (D.beside parts.old) (D.beside parts.new) }
+    ensures settled { is_contended result ≡ false }
+    ensures idle { says_ended result ≡ false → says_soft result ≡ false → IsIdle (D.words parts.old) (D.words parts.new) (D.begun parts.old) (D.begun parts.new) }
+    ensures answer { (m : Machine) → Stands layout.now (D.words parts.old) (D.beside parts.old) m → Answers layout.now (D.words parts.new) (D.beside parts.new) m (call.Output sid len) result }
+    ensures pool { P.lasts pool.old ≡ true → PoolFits (P.capacity pool.new) (P.taken pool.new) (P.gives pool.new) (P.takes pool.new) layout.now.states.slots (listed_in layout.now.states (D.words parts.new)) }
+{
+    match output_slot_here(layout, parts, sid, guess) {
+        None => Reply::Stale,
+        Some(slot) => output_held(layout, parts, pool, slot, sid, len),
+    }
+}
