@@ -9,8 +9,8 @@ ghost use Rattle.xf_run.specs.declared.answer.AnswerFault.TheVariants.{Memory, W
 use crate::calls::make_line;
 use crate::output::write_lines;
 use xf_batch::Task;
+use xf_calls::Database;
 use xf_io::{Failed, Sink};
-use xf_plain::Plain;
 use xf_types::NoMemory;
 
 #[derive(Debug, Drop)]
@@ -38,7 +38,7 @@ impl From<Failed> for AnswerFault {
 /// Answers a line, and says whether one of its replies is a refusal. All its calls are made before the first line of the
 /// text is offered. The buffer is for the text.
 pub fn answer<K: Sink>(
-    machine: &mut Plain,
+    machine: &mut Database,
     task: &Task,
     buffer: &mut Vec<u8>,
     out: &mut K,

@@ -7,12 +7,12 @@ ghost use Rattle.xf_batch.specs.Shown.{line_of};
 
 use crate::teller::Teller;
 use xf_batch::{Job, Task};
-use xf_plain::Plain;
+use xf_calls::Database;
 use xf_types::{Call, Flow, Hop, NoMemory, Place, Reply};
 
 /// Makes a call, and says whether its reply is a refusal. The reply, which is large, stays here.
 fn make_call<T: Teller>(
-    machine: &mut Plain,
+    machine: &mut Database,
     at: Place,
     call: &Call,
     teller: &mut T,
@@ -43,7 +43,7 @@ fn path(reply: &Reply) -> &[Hop]
 
 /// Makes an output for each hop, in order.
 fn make_outputs<T: Teller>(
-    machine: &mut Plain,
+    machine: &mut Database,
     line: u64,
     hops: &[Hop],
     len: u32,
@@ -72,7 +72,7 @@ fn make_outputs<T: Teller>(
 
 /// Makes a flow, and then an output for each hop of the path that it gives.
 fn make_send<T: Teller>(
-    machine: &mut Plain,
+    machine: &mut Database,
     line: u64,
     flow: Flow,
     len: u32,
@@ -95,7 +95,7 @@ fn make_send<T: Teller>(
 
 /// Makes the calls of a line, and says whether one of the replies is a refusal.
 pub fn make_line<T: Teller>(
-    machine: &mut Plain,
+    machine: &mut Database,
     task: &Task,
     teller: &mut T,
 ) -> Result<bool, NoMemory>

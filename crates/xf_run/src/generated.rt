@@ -11,13 +11,13 @@ use crate::calls::make_line;
 use crate::output::write_lines;
 use std::alloc::Global;
 use xf_batch::{Phase, Task, generate};
+use xf_calls::Database;
 use xf_io::{Failed, Sink};
-use xf_plain::Plain;
 use xf_tally::{Tally, print_tally};
 use xf_types::{NoMemory, Status};
 
 /// Answers call lines in their order, counts the replies, and says whether one is a refusal.
-fn count_tasks(machine: &mut Plain, tasks: &[Task], tally: &mut Tally) -> Result<bool, NoMemory>
+fn count_tasks(machine: &mut Database, tasks: &[Task], tally: &mut Tally) -> Result<bool, NoMemory>
     requires few { length tasks.now ≤ 2 ^ 33 }
     requires lines { All (λ l. line_number l ≤ 2 ^ 20) (lines_shown tasks.now) }
     requires room { tally.old.calls + 7 * length tasks.now ≤ 2 ^ 40 }
@@ -37,7 +37,7 @@ fn count_tasks(machine: &mut Plain, tasks: &[Task], tally: &mut Tally) -> Result
 }
 
 /// Runs one phase, and counts its lines and replies.
-fn count_phase(machine: &mut Plain, phase: &Phase, tally: &mut Tally) -> Result<bool, NoMemory>
+fn count_phase(machine: &mut Database, phase: &Phase, tally: &mut Tally) -> Result<bool, NoMemory>
     requires one { length phase.now.threads.items ≡ 1 }
     requires few { length (get_or (threads_shown phase.now.threads.items) 0 []) ≤ 6004 }
     requires places { All (λ l. line_number l ≤ 2 ^ 20) (get_or (threads_shown phase.now.threads.items) 0 []) }
@@ -60,7 +60,7 @@ fn count_phase(machine: &mut Plain, phase: &Phase, tally: &mut Tally) -> Result<
 fn count_input(alloc: Global, seed: u64) -> Result<(Tally, bool), NoMemory>
     ensures { IfOk result (λ p. Summarizes seed p.1 p.0) }
 {
-    let mut machine = Plain::new(alloc)?;
+    let mut machine = Database::new(alloc)?;
     let mut tally = Tally::new();
     let mut refused = false;
     'phases: for phase in 1..5 {

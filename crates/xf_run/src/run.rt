@@ -15,8 +15,8 @@ use crate::report::report;
 use crate::tasks::run_tasks;
 use std::alloc::Global;
 use xf_batch::{Phase, PhaseFault, read_phase};
+use xf_calls::Database;
 use xf_io::{Clock, Sink, Source};
-use xf_plain::Plain;
 use xf_read::Reader;
 use xf_types::{NoMemory, Status};
 
@@ -59,7 +59,7 @@ fn take_phase<S: Source, K: Sink>(
 /// Asks the clock, reads a phase and answers its lines, or says how the run ends with it. The buffer is for text.
 fn run_next<S: Source, K: Sink, C: Clock>(
     alloc: Global,
-    machine: &mut Plain,
+    machine: &mut Database,
     reader: Reader,
     buffer: &mut Vec<u8>,
     src: &mut S,
@@ -94,7 +94,7 @@ fn run_next<S: Source, K: Sink, C: Clock>(
 /// Runs the phases that a reader has before it.
 fn run_phases<S: Source, K: Sink, C: Clock>(
     alloc: Global,
-    mut machine: Plain,
+    mut machine: Database,
     mut reader: Reader,
     src: &mut S,
     out: &mut K,
@@ -148,7 +148,7 @@ pub fn run_one<S: Source, K: Sink, C: Clock>(
         Ok(reader) => reader,
         Err(NoMemory) => return Status::NoMemory,
     };
-    match Plain::new(alloc) {
+    match Database::new(alloc) {
         Ok(machine) => run_phases(alloc, machine, reader, src, out, clock),
         Err(NoMemory) => Status::NoMemory,
     }

@@ -6,12 +6,12 @@ ghost use Rattle.xf_run.specs.Progress.{GrowsBy, RunsLines, StopsBehind, StopsWi
 
 use crate::answer::{AnswerFault, answer};
 use xf_batch::Task;
+use xf_calls::Database;
 use xf_io::Sink;
-use xf_plain::Plain;
 
 /// Answers call lines in their order, each by lines of its own, and says whether a reply is a refusal. The buffer is for their text.
 pub fn run_tasks<K: Sink>(
-    machine: &mut Plain,
+    machine: &mut Database,
     tasks: &[Task],
     buffer: &mut Vec<u8>,
     out: &mut K,

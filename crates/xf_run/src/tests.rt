@@ -15,6 +15,7 @@ mod policies;
 mod sending;
 mod sizes;
 mod states;
+mod tables;
 mod uses;
 
 use super::top;
@@ -37,15 +38,6 @@ const SEND: &[u8] = b"send src 10.1.2.3 dst 192.0.2.1 len 10\n";
 const COUNT: &[u8] = b"xfrm policy count\n";
 
 const LIST: &[u8] = b"xfrm policy list\n";
-
-const WEB: &[u8] =
-    b"xfrm policy add src 2001:DB8:0:0::/32 dst ::/0 proto tcp dport 443 dir out priority 7 mark 0x2a\n";
-
-const STATE: &[u8] = b"xfrm state add dst 192.0.2.2 proto esp spi 0x1000 replay-window 32\n";
-
-const STATE_GET: &[u8] = b"xfrm state get dst 192.0.2.2 proto esp spi 0x1000\n";
-
-const STATE_COUNT: &[u8] = b"xfrm state count\n";
 
 const SYNC: &[u8] = b"sync\n";
 

@@ -1,183 +1,235 @@
 //! Worked batches of several phases and workers.
-use super::{
-    Case, FLOW, POLICY, SEND, STATE, STATE_COUNT, SYNC, bad, check_all, one, repeated, runs,
-};
+use super::tables::check_table;
+use super::{Case, FLOW, POLICY, SYNC, bad, check_all, one, repeated, runs};
 use std::test::Fail;
 use xf_types::{Reason, Status};
+
+const PHASES: &[u8] = b"
+# empty phases, and a `sync` at the end, with its line feed and without
+> sync
+= 0
+
+> sync
+> sync
+> flow out src 10.1.2.3 dst 192.0.2.1
+3: none
+= 0
+
+> xfrm policy add src 10.0.0.0/8 dst 0.0.0.0/0 dir out priority 10
+> sync
+1: ok index 9
+= 0
+
+# lines are numbered through all phases, by their first parts
+> # a phase
+> 
+> sy\\
+> nc  # its end
+> flow out src 10.1.2.3 dst 192.0.2.1
+> \t'sync' 
+> flow out src 10.1.2.3 dst 192.0.2.1
+5: none
+7: none
+= 0
+
+# a refusal in any phase, the first or the last
+> xfrm policy add src 10.0.0.0/8 dst 0.0.0.0/0 dir out priority 10
+> xfrm policy add src 10.0.0.0/8 dst 0.0.0.0/0 dir out priority 10
+> sync
+> flow out src 10.1.2.3 dst 192.0.2.1
+> sync
+> flow out src 10.1.2.3 dst 192.0.2.1
+1: ok index 9
+2: RTNETLINK answers: File exists
+4: policy 9 allow
+6: policy 9 allow
+= 1
+
+> xfrm policy add src 10.0.0.0/8 dst 0.0.0.0/0 dir out priority 10
+> sync
+> flow out src 10.1.2.3 dst 192.0.2.1
+> sync
+> xfrm policy add src 10.0.0.0/8 dst 0.0.0.0/0 dir out priority 10
+1: ok index 9
+3: policy 9 allow
+5: RTNETLINK answers: File exists
+= 1
+
+# under one thread the lines of all workers run in the order of the input
+> worker 3
+> flow out src 10.1.2.3 dst 192.0.2.1
+> worker 1
+> xfrm policy add src 10.0.0.0/8 dst 0.0.0.0/0 dir out priority 10
+> flow out src 10.1.2.3 dst 192.0.2.1
+> worker 15
+> xfrm policy delete index 9 dir out
+> worker 3
+> flow out src 10.1.2.3 dst 192.0.2.1
+> worker 0
+> xfrm policy add src 10.0.0.0/8 dst 0.0.0.0/0 dir out priority 10
+> sync
+> flow out src 10.1.2.3 dst 192.0.2.1
+> worker 2
+> worker 3
+> flow out src 10.1.2.3 dst 192.0.2.1
+2: none
+4: ok index 9
+5: policy 9 allow
+7: ok index 9
+9: none
+11: ok index 17
+13: policy 17 allow
+16: policy 17 allow
+= 0
+";
+
+const DATABASES: &[u8] = b"
+# policies and their indexes
+> xfrm policy add src 10.0.0.0/8 dst 0.0.0.0/0 dir out priority 10
+> sync
+> flow out src 10.1.2.3 dst 192.0.2.1
+> xfrm policy add src 11.0.0.0/8 dir out
+> sync
+> xfrm policy count
+> xfrm policy delete index 9 dir out
+> sync
+> flow out src 10.1.2.3 dst 192.0.2.1
+> xfrm policy add src 10.0.0.0/8 dst 0.0.0.0/0 dir out priority 10
+1: ok index 9
+3: policy 9 allow
+4: ok index 17
+6: count in 0 out 2 fwd 0
+7: ok index 9
+9: none
+10: ok index 25
+= 0
+
+# states and their ids
+> xfrm state add dst 192.0.2.2 proto esp spi 0x1000 replay-window 32
+> xfrm state add dst 192.0.2.3 proto esp spi 0x1000
+> sync
+> xfrm state delete dst 192.0.2.3 proto esp spi 0x1000
+> sync
+> xfrm state add dst 192.0.2.3 proto esp spi 0x1000
+> xfrm state add dst 192.0.2.2 proto esp spi 0x1000 replay-window 32
+> sync
+> xfrm state count
+1: ok sid 1
+2: ok sid 2
+4: ok sid 2
+6: ok sid 3
+7: RTNETLINK answers: File exists
+9: count 2
+= 1
+
+# a number that was accepted in one phase is seen in the next, and the window stays where it is
+> xfrm state add dst 192.0.2.2 proto esp spi 0x1000 replay-window 32
+> packet dst 192.0.2.2 proto esp spi 0x1000 seq 5
+> sync
+> packet dst 192.0.2.2 proto esp spi 0x1000 seq 5
+> packet dst 192.0.2.2 proto esp spi 0x1000 seq 40
+> sync
+> packet dst 192.0.2.2 proto esp spi 0x1000 seq 8
+> packet dst 192.0.2.2 proto esp spi 0x1000 seq 9
+> packet dst 192.0.2.2 proto esp spi 0x1000 seq 40
+> sync
+> packet dst 192.0.2.2 proto esp spi 0x1000 seq 9
+1: ok sid 1
+2: accepted top 5
+4: seen top 5
+5: accepted top 40
+7: old top 40
+8: accepted top 40
+9: seen top 40
+11: seen top 40
+= 0
+
+# bytes and packets are counted on, and that a state is dying stays
+> xfrm state add dst 192.0.2.2 proto esp spi 0x1000 replay-window 32 limit byte-soft 100 limit packet-hard 4
+> packet dst 192.0.2.2 proto esp spi 0x1000 seq 1 len 60
+> sync
+> packet dst 192.0.2.2 proto esp spi 0x1000 seq 2 len 60
+> sync
+> packet dst 192.0.2.2 proto esp spi 0x1000 seq 3 len 60
+> sync
+> packet dst 192.0.2.2 proto esp spi 0x1000 seq 4 len 60
+> sync
+> packet dst 192.0.2.2 proto esp spi 0x1000 seq 5 len 60
+> sync
+> xfrm state count
+1: ok sid 1
+2: accepted top 1
+4: accepted top 2
+6: accepted top 3 soft
+8: accepted top 4
+10: expired
+12: count 0
+= 0
+
+# a state is asked for, waited for, and then used; the next one that is asked for has the next number
+> xfrm policy add src 10.0.0.0/8 dst 192.0.2.0/24 dir out tmpl proto esp reqid 7
+> send src 10.1.2.3 dst 192.0.2.1 len 10
+> sync
+> send src 10.1.2.3 dst 192.0.2.1 len 10
+> sync
+> xfrm state add src 10.1.2.3 dst 192.0.2.1 proto esp spi 0x2000 reqid 7 seq 1
+> send src 10.1.2.3 dst 192.0.2.1 len 10
+> sync
+> send src 10.1.2.3 dst 192.0.2.1 len 10
+> flow out src 10.1.2.3 dst 192.0.2.2
+1: ok index 9
+2: acquire 1
+4: waiting 1
+6: ok sid 2
+7: policy 9 allow esp 0x00002000 192.0.2.1
+7.1: sent esp 0x00002000 seq 1
+9: policy 9 allow esp 0x00002000 192.0.2.1
+9.1: sent esp 0x00002000 seq 2
+10: acquire 2
+= 0
+
+# time, when a state was added, and its first use
+> tick 90
+> xfrm state add dst 192.0.2.2 proto esp spi 0x1000 limit time-soft 12 limit time-use-hard 10
+> sync
+> tick 100
+> packet dst 192.0.2.2 proto esp spi 0x1000 seq 1
+> sync
+> tick 102
+> sync
+> tick 109
+> sync
+> tick 110
+1: now 90 events 0
+2: ok sid 1
+4: now 100 events 0
+5: accepted top 1
+7: now 102 events 1
+7: state 1 soft
+9: now 109 events 0
+11: now 110 events 1
+11: state 1 expired
+= 0
+";
 
 #[test]
 fn phases(rt: HostRuntime) -> Result<(), Fail> {
     let cases = [
-        // empty phases, and a `sync` at the end, with its line feed and without
-        one(&[SYNC], b"", Status::Done),
         one(&[b"sync"], b"", Status::Done),
-        one(&[SYNC, SYNC, FLOW], b"3: none\n", Status::Done),
-        one(&[POLICY, SYNC], b"1: ok index 9\n", Status::Done),
         one(&[POLICY, b"sync"], b"1: ok index 9\n", Status::Done),
         one(
             &[POLICY, SYNC, b"\nworker 2\n# nothing more"],
             b"1: ok index 9\n",
             Status::Done,
         ),
-        // lines are numbered through all phases, by their first parts
-        one(
-            &[
-                b"# a phase\n\n",
-                b"sy\\\nnc  # its end\n",
-                FLOW,
-                b"\t'sync' \n",
-                FLOW,
-            ],
-            b"5: none\n7: none\n",
-            Status::Done,
-        ),
-        // a refusal in any phase, the first or the last
-        one(
-            &[POLICY, POLICY, SYNC, FLOW, SYNC, FLOW],
-            b"1: ok index 9\n2: RTNETLINK answers: File exists\n4: policy 9 allow\n6: policy 9 allow\n",
-            Status::Refusals,
-        ),
-        one(
-            &[POLICY, SYNC, FLOW, SYNC, POLICY],
-            b"1: ok index 9\n3: policy 9 allow\n5: RTNETLINK answers: File exists\n",
-            Status::Refusals,
-        ),
-        // under one thread the lines of all workers run in the order of the input
-        one(
-            &[
-                b"worker 3\n",
-                FLOW,
-                b"worker 1\n",
-                POLICY,
-                FLOW,
-                b"worker 15\n",
-                b"xfrm policy delete index 9 dir out\n",
-                b"worker 3\n",
-                FLOW,
-                b"worker 0\n",
-                POLICY,
-                SYNC,
-                FLOW,
-                b"worker 2\nworker 3\n",
-                FLOW,
-            ],
-            b"2: none\n4: ok index 9\n5: policy 9 allow\n7: ok index 9\n9: none\n11: ok index 17\n13: policy 17 allow\n16: policy 17 allow\n",
-            Status::Done,
-        ),
     ];
-    check_all(&rt, rt.alloc(), "phases", &cases)
+    check_all(&rt, rt.alloc(), "phases", &cases)?;
+    check_table(&rt, rt.alloc(), "phases", PHASES)
 }
 
 #[test]
 fn databases_live_on(rt: HostRuntime) -> Result<(), Fail> {
-    let cases = [
-        // policies and their indexes
-        one(
-            &[
-                POLICY,
-                SYNC,
-                FLOW,
-                b"xfrm policy add src 11.0.0.0/8 dir out\n",
-                SYNC,
-                b"xfrm policy count\n",
-                b"xfrm policy delete index 9 dir out\n",
-                SYNC,
-                FLOW,
-                POLICY,
-            ],
-            b"1: ok index 9\n3: policy 9 allow\n4: ok index 17\n6: count in 0 out 2 fwd 0\n7: ok index 9\n9: none\n10: ok index 25\n",
-            Status::Done,
-        ),
-        // states and their ids
-        one(
-            &[
-                STATE,
-                b"xfrm state add dst 192.0.2.3 proto esp spi 0x1000\n",
-                SYNC,
-                b"xfrm state delete dst 192.0.2.3 proto esp spi 0x1000\n",
-                SYNC,
-                b"xfrm state add dst 192.0.2.3 proto esp spi 0x1000\n",
-                STATE,
-                SYNC,
-                STATE_COUNT,
-            ],
-            b"1: ok sid 1\n2: ok sid 2\n4: ok sid 2\n6: ok sid 3\n7: RTNETLINK answers: File exists\n9: count 2\n",
-            Status::Refusals,
-        ),
-        // a number that was accepted in one phase is seen in the next, and the window stays where it is
-        one(
-            &[
-                STATE,
-                b"packet dst 192.0.2.2 proto esp spi 0x1000 seq 5\n",
-                SYNC,
-                b"packet dst 192.0.2.2 proto esp spi 0x1000 seq 5\n",
-                b"packet dst 192.0.2.2 proto esp spi 0x1000 seq 40\n",
-                SYNC,
-                b"packet dst 192.0.2.2 proto esp spi 0x1000 seq 8\n",
-                b"packet dst 192.0.2.2 proto esp spi 0x1000 seq 9\n",
-                b"packet dst 192.0.2.2 proto esp spi 0x1000 seq 40\n",
-                SYNC,
-                b"packet dst 192.0.2.2 proto esp spi 0x1000 seq 9\n",
-            ],
-            b"1: ok sid 1\n2: accepted top 5\n4: seen top 5\n5: accepted top 40\n7: old top 40\n8: accepted top 40\n9: seen top 40\n11: seen top 40\n",
-            Status::Done,
-        ),
-        // bytes and packets are counted on, and that a state is dying stays
-        one(
-            &[
-                b"xfrm state add dst 192.0.2.2 proto esp spi 0x1000 replay-window 32 limit byte-soft 100 limit packet-hard 4\n",
-                b"packet dst 192.0.2.2 proto esp spi 0x1000 seq 1 len 60\n",
-                SYNC,
-                b"packet dst 192.0.2.2 proto esp spi 0x1000 seq 2 len 60\n",
-                SYNC,
-                b"packet dst 192.0.2.2 proto esp spi 0x1000 seq 3 len 60\n",
-                SYNC,
-                b"packet dst 192.0.2.2 proto esp spi 0x1000 seq 4 len 60\n",
-                SYNC,
-                b"packet dst 192.0.2.2 proto esp spi 0x1000 seq 5 len 60\n",
-                SYNC,
-                STATE_COUNT,
-            ],
-            b"1: ok sid 1\n2: accepted top 1\n4: accepted top 2\n6: accepted top 3 soft\n8: accepted top 4\n10: expired\n12: count 0\n",
-            Status::Done,
-        ),
-        // a state is asked for, waited for, and then used; the next one that is asked for has the next number
-        one(
-            &[
-                b"xfrm policy add src 10.0.0.0/8 dst 192.0.2.0/24 dir out tmpl proto esp reqid 7\n",
-                SEND,
-                SYNC,
-                SEND,
-                SYNC,
-                b"xfrm state add src 10.1.2.3 dst 192.0.2.1 proto esp spi 0x2000 reqid 7 seq 1\n",
-                SEND,
-                SYNC,
-                SEND,
-                b"flow out src 10.1.2.3 dst 192.0.2.2\n",
-            ],
-            b"1: ok index 9\n2: acquire 1\n4: waiting 1\n6: ok sid 2\n7: policy 9 allow esp 0x00002000 192.0.2.1\n7.1: sent esp 0x00002000 seq 1\n9: policy 9 allow esp 0x00002000 192.0.2.1\n9.1: sent esp 0x00002000 seq 2\n10: acquire 2\n",
-            Status::Done,
-        ),
-        // time, when a state was added, and its first use
-        one(
-            &[
-                b"tick 90\n",
-                b"xfrm state add dst 192.0.2.2 proto esp spi 0x1000 limit time-soft 12 limit time-use-hard 10\n",
-                SYNC,
-                b"tick 100\n",
-                b"packet dst 192.0.2.2 proto esp spi 0x1000 seq 1\n",
-                SYNC,
-                b"tick 102\n",
-                SYNC,
-                b"tick 109\n",
-                SYNC,
-                b"tick 110\n",
-            ],
-            b"1: now 90 events 0\n2: ok sid 1\n4: now 100 events 0\n5: accepted top 1\n7: now 102 events 1\n7: state 1 soft\n9: now 109 events 0\n11: now 110 events 1\n11: state 1 expired\n",
-            Status::Done,
-        ),
-    ];
-    check_all(&rt, rt.alloc(), "databases", &cases)
+    check_table(&rt, rt.alloc(), "databases", DATABASES)
 }
 
 #[test]
