@@ -1,0 +1,11 @@
+pub mod Haves
+pub mod Marked
+pub mod Parts
+pub mod Slots
+pub mod Moments
+pub mod OwnSeats
+pub mod OwnDraws
+pub mod OwnMoves
+pub mod OwnReads
+pub mod OwnTurns
+pub mod OwnSayings

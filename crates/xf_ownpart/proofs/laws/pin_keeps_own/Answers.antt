@@ -1,0 +1,6 @@
+use Rattle.xf_views.specs.Views.{view_after_pin}
+use Rattle.xf_ownpart.proofs.OwnSeats.{mine, quiet}
+use Rattle.xf_ownpart.proofs.laws.pin_keeps_own.Goals as goal
+
+pub returns : goal.returns
+returns g c = λ most base start w pin. quiet g.T.Means.bucket_of g.T.Means.good g.T.Lists.lists g.met.T.Lists.listing most base start w (view_after_pin w.scene.view pin) (mine g.T.Means.bucket_of g.T.Means.good g.T.Lists.lists g.met.T.Lists.listing most base start w)

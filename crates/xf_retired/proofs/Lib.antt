@@ -1,0 +1,4 @@
+pub mod Counts
+pub mod Retiring
+pub mod Rows
+pub mod Fulls

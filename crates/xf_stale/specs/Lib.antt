@@ -1,0 +1,2 @@
+pub mod StalePart
+pub mod StaleLaws
