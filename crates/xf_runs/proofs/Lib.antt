@@ -1,0 +1,17 @@
+pub mod Flags
+pub mod Lookups
+pub mod Placed
+pub mod Ways
+pub mod Clear
+pub mod Always
+pub mod Rows
+pub mod Scenes
+pub mod QuietRows
+pub mod StoreRows
+pub mod DrawRows
+pub mod ReadRows
+pub mod Parts
+pub mod Honestly
+pub mod Hands
+pub mod Watched
+pub mod Reuse

@@ -1,0 +1,5 @@
+pub mod Known
+pub mod Holds
+pub mod Honest
+pub mod Runs
+pub mod Reuse
