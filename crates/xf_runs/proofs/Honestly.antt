@@ -43,12 +43,12 @@ zero-at (suc words) (suc slot) = zero-at words slot
 module _ (bucket_of : Sa → ℕ) (good : List ℕ → Told → Type 0) (lists : List ℕ → ℕ → Option (Sa × ℕ)) (id_place : ℕ → ℕ) (index_at : List ℕ → ℕ → Option ℕ) (policies states : ℕ) where
   -- at the beginning
   parts_begin : (seats words : ℕ) → 1 ≤ seats → seats ≤ 16 → IsLayout good policies states words
-      → HonestHolds bucket_of good lists id_place policies states seats (replicate words 0) (empty policies states) (first_known seats words (policies + states))
+      → HonestHolds bucket_of good lists id_place policies states seats (replicate words 0) (empty policies states) (first_known seats words (policies + states) (first_start seats words policies states))
   parts_begin seats words some_seat few layout =
       let base = replicate words 0 in
-      let first = first_start seats words (policies + states) in
+      let first = first_start seats words policies states in
       record {
-        always = always_begins seats words (policies + states) some_seat few;
+        always = always_begins seats words (policies + states) first some_seat few;
         image = image_begins bucket_of good base seats first;
         pinned = pins_begin id_place policies (policies + states) base seats first (λ s less. zero-at words s);
         own = own_begins lists (empty policies states) base (replicate (policies + states) 0) (at_home lists (empty policies states) [] base) seats first (λ slot e. refl);
@@ -114,7 +114,7 @@ module _ (bucket_of : Sa → ℕ) (good : List ℕ → Told → Type 0) (lists :
     parts_stay seats words steps p run =
         honest_runs seats (replicate words 0) (empty policies states)
         record { machine = empty-is policies states run.layout.few_policies run.layout.few_states; ids = run.layout.ids; stands = run.layout.zeros }
-        (first_known seats words (policies + states)) steps p (parts_begin seats words run.some_seat run.few_seats run.layout) run.led run.honest
+        (first_known seats words (policies + states) (first_start seats words policies states)) steps p (parts_begin seats words run.some_seat run.few_seats run.layout) run.led run.honest
 
     pub legal_runs : RunsAreLegal bucket_of good lists id_place index_at policies states
     legal_runs seats words steps p run =

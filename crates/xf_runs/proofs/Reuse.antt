@@ -17,7 +17,7 @@ use Rattle.xf_proto.specs.Statuses.{are_clear, may_become, may_store}
 use Rattle.xf_proto.specs.Legality.{may_step}
 use Rattle.xf_proto.specs.Effects.{pin_after, state_after}
 use Rattle.xf_proto.specs.Table.{LeadTo}
-use Rattle.xf_runs.specs.Known.{Known, first_known, known_after}
+use Rattle.xf_runs.specs.Known.{Known, first_start, first_known, known_after}
 use Rattle.xf_runs.specs.Holds.{AlwaysHolds}
 use Rattle.xf_runs.specs.Reuse.{step_of, EachStep, LeavesPin, NoReuse}
 use Rattle.xf_runs.proofs.Flags.{both}
@@ -165,11 +165,11 @@ module _ (made : ℕ) where
 
 pub no_reuse : NoReuse
 no_reuse seats words slots k slot steps p some_seat few inside led r =
-    let first = first_known seats words slots in
+    let first = first_known seats words slots (first_start seats words slots 0) in
     let later = step_of k kind.Pin ∷ (r.between ++ (step_of r.retirer (kind.Store slot r.word) ∷ (r.after ++ (step_of r.lister (kind.Store slot 1) ∷ r.rest)))) in
     let a = lead-parts first.state r.before later p (subst (λ (l : List Step). LeadTo first.state l p) (sym r.whole) led) in
     let y = runs_with seats (AreEarly seats slots) (λ s. Unit {0}) (λ z h e step ok s at legal. early-keeps seats slots z.state e step.actor s step.kind at)
-    first r.before a.0 (always_begins seats words slots some_seat few) (
+    first r.before a.0 (always_begins seats words slots (first_start seats words slots 0) some_seat few) (
       λ i s at. subst (λ (t : SeatState). IsEarly 0 t.hand) (get_replicated seats i first_seat s at).1 at_first,
       length-replicate slots 0,
     )

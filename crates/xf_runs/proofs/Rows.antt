@@ -81,21 +81,21 @@ first-is start (suc n) i h = dite (ℕ_discrete i n)
     (λ e. subst (λ j. get_elem? (first_views start (suc n)) j ≡ some (first_view start j 0)) (sym e) (at_last (first_views start n) (first_view start n 0) n (first-count start n)))
     (λ ne. at_longer (first_views start n) (first_view start n 0 ∷ []) i (first_view start i 0) (first-is start n i (omega arith)))
 
-pub always_begins : (seats words slots : ℕ) → 1 ≤ seats → seats ≤ 16 → AlwaysHolds seats (first_known seats words slots)
-always_begins seats words slots some_seat few = record {
-  turn = turn_begins 0 seats (first_start seats words slots) some_seat few;
+pub always_begins : (seats words slots : ℕ) (start : Start) → 1 ≤ seats → seats ≤ 16 → AlwaysHolds seats (first_known seats words slots start)
+always_begins seats words slots start some_seat few = record {
+  turn = turn_begins 0 seats start some_seat few;
   told = record {
     seats = λ i s e.
         let r = get_replicated seats i first_seat s e in
-        (first_view (first_start seats words slots) i 0, first-is (first_start seats words slots) seats i r.0, subst (λ (t : SeatState). FitsSeat i t (first_view (first_start seats words slots) i 0)) r.1 (fits i));
+        (first_view start i 0, first-is start seats i r.0, subst (λ (t : SeatState). FitsSeat i t (first_view start i 0)) r.1 (fits i));
     count = length-replicate seats first_seat;
     receipts = refl;
   };
 }
   where
-    fits : (i : ℕ) → FitsSeat i first_seat (first_view (first_start seats words slots) i 0)
+    fits : (i : ℕ) → FitsSeat i first_seat (first_view start i 0)
     fits i = record { here = refl; named = refl; known = refl; held = refl; waiting = λ r e. absurd (none-some r e) }
 
 pub turns_stay : TurnsStay
 turns_stay lists start seats words slots steps p some_seat few led =
-    always_runs lists start seats (first_known seats words slots) steps p (always_begins seats words slots some_seat few) led
+    always_runs lists start seats (first_known seats words slots (first_start seats words slots 0)) steps p (always_begins seats words slots (first_start seats words slots 0) some_seat few) led

@@ -1,11 +1,12 @@
 -- A state of the protocol with what all its seats know and the history behind it, and what each step makes of it.
-use Rattle.std.specs.Prelude.{◌≡◌, ℕ, zero, suc, Bool, true, false, if◌then◌else◌, List, [], ◌∷◌, ◌++◌, map, set, replicate, length, Option, Some, None, slice_index, slice_get}
+use Rattle.std.specs.Prelude.{◌≡◌, ℕ, zero, suc, ◌+◌, Bool, true, false, if◌then◌else◌, List, [], ◌∷◌, ◌++◌, map, set, replicate, length, Option, Some, None, slice_index, slice_get}
 use mathlib.Core.Option.{some}
 use lib.ListN.{get_elem?}
 use Rattle.xf_types.specs.declared.call.Receipt.{Receipt}
 use Rattle.xf_types.specs.declared.state.Sa.{Sa}
 use Rattle.xf_types.specs.Machine.{Machine}
 use Rattle.xf_types.specs.History.{machine_of}
+use Rattle.xf_types.specs.Standing.{Nothing}
 use Rattle.xf_late.specs.Rests.{rests_on}
 use Rattle.xf_views.specs.declared.view.View.{View}
 use Rattle.xf_views.specs.declared.view.Start.{Start}
@@ -33,16 +34,17 @@ pub record Known : Type 0 where
   pub settled : List ℕ
   pub pins : List ℕ
 
--- so many seats, words and slots at the beginning
-abbrev pub first_start : ℕ → ℕ → ℕ → Start
-first_start seats words slots = record { seats = seats; slots = slots; words = replicate words 0 }
+-- so many seats, words, and slots of policies and of states at the beginning
+abbrev pub first_start : ℕ → ℕ → ℕ → ℕ → Start
+first_start seats words policies states =
+    record { seats = seats; policies = policies; states = states; words = replicate words 0; homes = replicate (policies + states) Nothing }
 
--- what is known at the beginning
-abbrev pub first_known : ℕ → ℕ → ℕ → Known
-first_known seats words slots =
+-- what is known at the beginning, with this start in each view
+abbrev pub first_known : ℕ → ℕ → ℕ → Start → Known
+first_known seats words slots start =
     record {
       state = first_state seats words slots;
-      views = first_views (first_start seats words slots) seats;
+      views = first_views start seats;
       owners = [];
       log = [];
       settled = replicate words 0;

@@ -9,7 +9,7 @@ use Rattle.xf_invariant.specs.Meaning.{Told, told}
 use Rattle.xf_proto.specs.declared.step.Step.{Step}
 use Rattle.xf_proto.specs.ProtocolState.{ProtocolState, first_state}
 use Rattle.xf_proto.specs.Table.{LeadTo}
-use Rattle.xf_runs.specs.Known.{Known, first_known, LearnTo}
+use Rattle.xf_runs.specs.Known.{Known, first_start, first_known, LearnTo}
 use Rattle.xf_runs.specs.Holds.{AlwaysHolds, HonestHolds}
 use Rattle.xf_runs.specs.Honest.{IsHonest}
 
@@ -18,7 +18,7 @@ abbrev pub TurnsStay : Type 0
 TurnsStay =
     (lists : List ℕ → ℕ → Option (Sa × ℕ)) (start : Machine) (seats words slots : ℕ) (steps : List Step) (p : ProtocolState) → 1 ≤ seats → seats ≤ 16
     → LeadTo (first_state seats words slots) steps p
-    → (k : Known) × LearnTo lists start (first_known seats words slots) steps k × (k.state ≡ p) × AlwaysHolds seats k
+    → (k : Known) × LearnTo lists start (first_known seats words slots (first_start seats words slots 0)) steps k × (k.state ≡ p) × AlwaysHolds seats k
 
 -- the layout of a database: its slots have words, and words that are all 0 stand for the empty machine with as many records at most as slots
 pub record IsLayout (good : List ℕ → Told → Type 0) (policies states words : ℕ) : Type 0 where
@@ -35,13 +35,13 @@ module _ (bucket_of : Sa → ℕ) (good : List ℕ → Told → Type 0) (lists :
     pub few_seats : seats ≤ 16
     pub layout : IsLayout good policies states words
     pub led : LeadTo (first_state seats words (policies + states)) steps p
-    pub honest : IsHonest bucket_of good lists id_place index_at policies states (replicate words 0) (empty policies states) (first_known seats words (policies + states)) steps
+    pub honest : IsHonest bucket_of good lists id_place index_at policies states (replicate words 0) (empty policies states) (first_known seats words (policies + states) (first_start seats words policies states)) steps
 
   -- then all parts hold of what is known after it, and so after each of its steps, since a front of such a list is one
   abbrev pub PartsStay : Type 0
   PartsStay =
       (seats words : ℕ) (steps : List Step) (p : ProtocolState) → LeadsHonestly seats words steps p
-      → (k : Known) × LearnTo lists (empty policies states) (first_known seats words (policies + states)) steps k × (k.state ≡ p)
+      → (k : Known) × LearnTo lists (empty policies states) (first_known seats words (policies + states) (first_start seats words policies states)) steps k × (k.state ≡ p)
       × HonestHolds bucket_of good lists id_place policies states seats (replicate words 0) (empty policies states) k
 
   -- and the receipts are a legal history of the empty machine

@@ -14,4 +14,4 @@ pub use laws::{
     serving_keeps_turn, store_keeps_turn, take_turn_keeps_turn, ticket_keeps_turn, turn_begins,
     turn_says, unpin_keeps_turn,
 };
-pub use view::{ImageView, Knowledge, LifeView, OwnView, PinView, SlotTurn, Start, View};
+pub use view::{Home, ImageView, Knowledge, LifeView, OwnView, PinView, SlotTurn, Start, View};

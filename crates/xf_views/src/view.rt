@@ -1,7 +1,8 @@
 //! What a seat knows. No value of these types is made: the steps are functions on what contracts see of them.
-use crate::{Hand, Listed};
+use crate::{Hand, Listed, OwnSeen};
 use std::collections::LinkedList;
-use xf_types::Receipt;
+use std::marker::Model;
+use xf_types::{Receipt, Sa};
 
 /// What it has seen and recorded.
 pub struct Knowledge {
@@ -51,11 +52,30 @@ pub struct OwnView {
     pub turns: LinkedList<SlotTurn>,
 }
 
-/// How many seats and slots there are, and the image words at the start.
+/// What a value stands for at the start: a state's record, the time and the state's own part, or nothing (contracts see a
+/// standing). No value of it is made.
+pub struct Home {
+    pub state: Sa,
+    pub time: u64,
+    pub own: OwnSeen,
+}
+
+impl Model for Home {
+    ghost use Rattle.xf_types.specs.Standing.{Standing, OneState};
+
+    ghost Value = { Standing };
+
+    ghost view = { λ h. OneState h.state h.time h.own };
+}
+
+/// How many seats there are, how many slots of policies and of states, and the image words and the values at the start.
 pub struct Start {
     pub seats: u64,
-    pub slots: u64,
+    pub policies: u64,
+    pub states: u64,
     pub words: LinkedList<u64>,
+    /// What the value at each slot stands for: the policies' slots come first.
+    pub homes: LinkedList<Home>,
 }
 
 /// Where it comes from, and what it took in of others.
