@@ -1,0 +1,15 @@
+pub mod Life
+pub mod Made
+pub mod Split
+pub mod SplitRest
+pub mod Longer
+pub mod Spent
+pub mod Join
+pub mod JoinRest
+pub mod First
+pub mod Few
+pub mod Holders
+pub mod Pinned
+pub mod Endings
+pub mod Merged
+pub mod Apart

@@ -1,0 +1,11 @@
+pub mod Opened
+pub mod LifePart
+pub mod Seats
+pub mod LifeLaws
+pub mod Splits
+pub mod Joins
+pub mod FirstSeat
+pub mod Small
+pub mod Ends
+pub mod HeldPart
+pub mod HeldLaws
