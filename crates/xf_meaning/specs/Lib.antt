@@ -1,0 +1,11 @@
+pub mod Places
+pub mod Marks
+pub mod Good
+pub mod Tells
+pub mod Machines
+pub mod Beside
+pub mod Calls
+pub mod SlotLaws
+pub mod OpenLaws
+pub mod StandLaws
+pub mod CallLaws
