@@ -1,0 +1,11 @@
+pub mod Regions
+pub mod Scenes
+pub mod Turning
+pub mod Wording
+pub mod Placing
+pub mod Drawing
+pub mod Slotting
+pub mod Seating
+pub mod Rows
+pub mod Endings
+pub mod Beginnings

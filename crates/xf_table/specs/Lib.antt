@@ -1,0 +1,6 @@
+pub mod Rule
+pub mod Rows
+pub mod Plays
+pub mod Tables
+pub mod Ends
+pub mod Emptied
