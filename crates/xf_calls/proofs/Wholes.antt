@@ -1,5 +1,7 @@
 -- What a whole database gives to a call, and what a call leaves of it.
-use Rattle.std.proofs.Common.{arith, ℕ, ◌≡◌, ◌^◌, ◌<◌, ◌≤◌, Bool, true, false, List, length, refl, ap, sym, ◌∙◌, subst, slice_index}
+use Rattle.std.proofs.Common.{arith, ℕ, ◌≡◌, ◌^◌, ◌<◌, ◌≤◌, Bool, true, false, List, [], ◌∷◌, length, refl, ap, sym, ◌∙◌, subst, slice_index}
+use Rattle.std.specs.Prelude.{All}
+use Rattle.std.proofs.lemmas.List.Elements.{All-nil, All-cons}
 use Rattle.xf_types.specs.declared.call.Call.{Call}
 use Rattle.xf_types.specs.declared.call.Reply.{Reply}
 use Rattle.xf_types.specs.Machine.{Machine}
@@ -52,6 +54,19 @@ stood w = record { machine = _; stands = w.stands }
 pub policies_stood : {layout : Layout} {i : List ℕ} {b : Beside} {pa po : ℕ} {pg pt : ℕ → Type 0} {sa so : ℕ} {sg st : ℕ → Type 0}
     → IsWhole layout i b pa po pg pt sa so sg st → policycalls.Stood layout.policies i
 policies_stood w = record { shown = _; entries = w.stands.policies; stands = w.stands.on_policies }
+
+-- what holds of everything holds of each element
+each : (P : ℕ → Type 0) → ((slot : ℕ) → P slot) → (slots : List ℕ) → All P slots
+each P holds [] = All-nil P
+each P holds (slot ∷ slots) = All-cons P slot slots (holds slot) (each P holds slots)
+
+pub ticks_ready : {layout : Layout} {i : List ℕ} {b : Beside} {pa po : ℕ} {pg pt : ℕ → Type 0} {sa so : ℕ} {sg st : ℕ → Type 0}
+    → IsWhole layout i b pa po pg pt sa so sg st → ticking.IsReady layout (length i) 0 i b
+ticks_ready {layout = layout} {i = i} {b = b} w = record {
+  fits = w.fits;
+  behind = omega arith;
+  turns = each (λ slot. b.held slot ≡ true) w.turns (states.listed_in layout.states i);
+}
 
 -- a state id is left to give
 pub sids_left : {layout : Layout} {i : List ℕ} {b : Beside} {n : Machine} → Stands layout i b n → n.shown.next_sid < 2 ^ 63 → next_sid_in layout.states i < 2 ^ 63

@@ -62,6 +62,10 @@ impl Parts for Desk {
 
     ghost hidden = { λ d. 0 };
 
+    fn holds(&self, slot: u32) -> bool {
+        self.memory.holds(slot)
+    }
+
     fn enter(&mut self, slot: u32) {
         self.memory.enter(slot)
     }

@@ -3,3 +3,4 @@ pub mod Pools
 pub mod Hashing
 pub mod Frees
 pub mod OneSlot
+pub mod Backs

@@ -108,7 +108,7 @@ count_more (suc n) x g h none = at (λ l. count_more n x g l none) (x == n) refl
         omega (arith, t, u)
 
 -- the slot is one of these
-abbrev is_one_of : List ℕ → ℕ → Bool
+abbrev pub is_one_of : List ℕ → ℕ → Bool
 is_one_of [] k = false
 is_one_of (x ∷ xs) k = (x == k) || is_one_of xs k
 
@@ -120,7 +120,7 @@ count_slots : (n : ℕ) (xs : List ℕ) → Apart xs → Within n xs → count_b
 count_slots n [] a w = count_none n
 count_slots n (x ∷ xs) a w = count_more n x (is_one_of xs) w.0 (misses_one x xs a.0) ∙ ap suc (count_slots n xs a.1 w.1)
 
-all_one : (test : ℕ → Bool) (xs : List ℕ) (k : ℕ) → All (λ x. test x ≡ true) xs → is_one_of xs k ≡ true → test k ≡ true
+pub all_one : (test : ℕ → Bool) (xs : List ℕ) (k : ℕ) → All (λ x. test x ≡ true) xs → is_one_of xs k ≡ true → test k ≡ true
 all_one test [] k all is = absurd cc
 all_one test (x ∷ xs) k all is = at (all_one test xs k (All-tail (λ y. test y ≡ true) x xs all)) (x == k) refl
   where
@@ -128,7 +128,7 @@ all_one test (x ∷ xs) k all is = at (all_one test xs k (All-tail (λ y. test y
     at rest true e = ap test (sym (eqb-true x k e)) ∙ All-head (λ y. test y ≡ true) x xs all
     at rest false e = rest (ap (λ b. b || is_one_of xs k) (sym e) ∙ is)
 
-none_one : (xs : List ℕ) (k : ℕ) → is_one_of xs k ≡ false → Misses k xs
+pub none_one : (xs : List ℕ) (k : ℕ) → is_one_of xs k ≡ false → Misses k xs
 none_one [] k is = tt
 none_one (x ∷ xs) k is = at (none_one xs k) (x == k) refl
   where

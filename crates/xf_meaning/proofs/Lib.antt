@@ -6,3 +6,4 @@ pub mod Beginnings
 pub mod Values
 pub mod Calling
 pub mod Moving
+pub mod Keeping

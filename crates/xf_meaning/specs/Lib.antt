@@ -9,3 +9,4 @@ pub mod SlotLaws
 pub mod OpenLaws
 pub mod StandLaws
 pub mod CallLaws
+pub mod KeepLaws

@@ -1,5 +1,6 @@
 //! Laws of the meaning. No code calls these functions; proofs cite the lemmas.
 ghost use Rattle.xf_meaning.specs.CallLaws.{CallLaws};
+ghost use Rattle.xf_meaning.specs.KeepLaws.{KeepLaws};
 ghost use Rattle.xf_meaning.specs.OpenLaws.{OpenLaws};
 ghost use Rattle.xf_meaning.specs.SlotLaws.{SlotLaws};
 ghost use Rattle.xf_meaning.specs.StandLaws.{StandLaws};
@@ -22,4 +23,9 @@ pub fn standing()
 /// A call over words and values, by someone who has the turn, gives an honest receipt.
 pub fn calls()
     ensures { CallLaws }
+{}
+
+/// Words that keep the places of states keep what the table's slots list.
+pub fn places()
+    ensures { KeepLaws }
 {}

@@ -5,5 +5,5 @@
 mod laws;
 mod place;
 
-pub use laws::{calls, opening, slots, standing};
+pub use laws::{calls, opening, places, slots, standing};
 pub use place::layout_of;

@@ -68,6 +68,10 @@ impl Parts for Memory {
 
     ghost hidden = { λ d. 0 };
 
+    fn holds(&self, _slot: u32) -> bool {
+        true
+    }
+
     fn enter(&mut self, _slot: u32) {}
 
     fn take(&mut self, slot: u32) -> Local {

@@ -19,6 +19,11 @@ pub trait Parts: Cells {
     /// Words below this place are the implementor's own.
     ghost hidden: { Self → ℕ };
 
+    /// Whether a slot's turn is held.
+    fn holds(&self, slot: u32) -> bool
+        requires slot { slot < length (beside self.now).values }
+        ensures { result ≡ (beside self.now).held slot };
+
     /// Takes a slot's turn, where it isn't held.
     fn enter(&mut self, slot: u32)
         requires slot { slot < length (beside self.old).values }
@@ -81,6 +86,7 @@ pub trait Parts: Cells {
         requires held { (beside self.old).held slot ≡ true }
         ensures size { Self.size self.new ≡ Self.size self.old }
         ensures begun { Self.begun self.new ≡ Self.begun self.old }
+        ensures rest { Self.rest self.new ≡ Self.rest self.old }
         ensures words { Self.words self.new ≡ Self.words self.old }
         ensures hidden { hidden self.new ≡ hidden self.old }
         ensures beside { beside self.new ≡ beside self.old }

@@ -28,7 +28,8 @@ use Rattle.xf_policies.specs.declared.sweep.Sweep.TheVariants.{Admitted, OfPtype
 use Rattle.xf_policies.specs.declared.sweep.Fate.{Fate}
 use Rattle.xf_policies.specs.declared.sweep.Fate.TheVariants.{Stays, Warned, Gone}
 use Rattle.xf_policies.specs.Sweeps.{leaves, warns, changes, fate_by, fate_of, changes_of, left_of, entries_swept, swept}
-use Rattle.xf_policies.specs.Standing.{StandsWith, Stood, TakesBack, Lasts, TakesAny, Started, Moves, Passes, Sweeping, IsSwept}
+use Rattle.xf_cells.specs.Backs.{TakesBack, Lasts, TakesAny}
+use Rattle.xf_policies.specs.Standing.{StandsWith, Stood, Started, Moves, Passes, Sweeping, IsSwept}
 use Rattle.xf_policies.proofs.Cursors.{entries_few, same_slot, no_more, none_comes, records_nil, entries_nil}
 
 -- ---- one policy

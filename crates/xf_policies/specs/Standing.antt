@@ -24,11 +24,6 @@ pub record Stood (a : PolicyArea) (words : List ℕ) : Type 0 where
   pub entries : List (ℕ × Policy)
   pub stands : SpdStands a words shown entries
 
--- A pool of a kind takes back one slot after the other: it lasts, or takes any slot while one is out.
-pub data TakesBack {P : Type 0} (lasts : Bool) (taken : P → ℕ) (takes : P → ℕ → Type 0) : Type 0 where
-  Lasts : (is : lasts ≡ true) → TakesBack lasts taken takes
-  TakesAny : (any : (pool : P) (slot : ℕ) → 0 < taken pool → takes pool slot) → TakesBack lasts taken takes
-
 -- There are as many words, and but for the hidden ones those before the first place and from the last one on are the same.
 pub record LeavesOthers (hidden first last : ℕ) (image words : List ℕ) : Type 0 where
   pub size : length words ≡ length image

@@ -6,12 +6,13 @@ ghost use Rattle.xf_types.specs.Machine.{Shown};
 ghost use Rattle.xf_types.specs.PolicyList.{policy_meets};
 ghost use Rattle.xf_types.specs.PolicyRules as rule;
 ghost use Rattle.xf_types.specs.Same.{meets_one, same_ptype};
+ghost use Rattle.xf_cells.specs.Backs.{TakesBack};
 ghost use Rattle.xf_image.specs.Entries.{entries_without};
 ghost use Rattle.xf_image.specs.Readings.{listed_in};
 ghost use Rattle.xf_inexact.specs.Whole.{SpdStands, WholeFits, whole_end};
 ghost use Rattle.xf_spd.specs.Slots.{PoolFits};
 ghost use Rattle.xf_policies.specs.Answers.{PolicyAnswers};
-ghost use Rattle.xf_policies.specs.Standing.{Stood, TakesBack, LeavesOthers, Started};
+ghost use Rattle.xf_policies.specs.Standing.{Stood, LeavesOthers, Started};
 
 use crate::slots::PolicySlots;
 use crate::sweep::Sweep;

@@ -2,13 +2,14 @@
 ghost use Rattle.std.specs.Prelude.{◌≡◌, ℕ, ◌+◌, ◌*◌, ◌<◌, ◌≤◌, Bool, true, List, ◌∷◌, ◌++◌, length};
 ghost use Rattle.xf_types.specs.declared.policy.Policy.{Policy};
 ghost use Rattle.xf_types.specs.Machine.{Shown};
+ghost use Rattle.xf_cells.specs.Backs.{TakesBack};
 ghost use Rattle.xf_records.specs.Policies.{warned};
 ghost use Rattle.xf_image.specs.Frames.{Frame};
 ghost use Rattle.xf_image.specs.Readings.{listed_in};
 ghost use Rattle.xf_inexact.specs.Whole.{SpdStands, WholeFits, whole_end};
 ghost use Rattle.xf_spd.specs.Slots.{PoolFits};
 ghost use Rattle.xf_policies.specs.Sweeps.{left_of};
-ghost use Rattle.xf_policies.specs.Standing.{StandsWith, Stood, TakesBack, LeavesOthers, Started, Moves, Passes, IsSwept};
+ghost use Rattle.xf_policies.specs.Standing.{StandsWith, Stood, LeavesOthers, Started, Moves, Passes, IsSwept};
 
 use crate::cursor;
 use crate::slots::PolicySlots;

@@ -4,10 +4,11 @@ ghost use Rattle.xf_types.specs.declared.policy.Policy.{Policy};
 ghost use Rattle.xf_types.specs.Machine.{Shown};
 ghost use Rattle.xf_types.specs.TickRules as rule;
 ghost use Rattle.xf_cells.specs.Words.{Narrows};
+ghost use Rattle.xf_cells.specs.Backs.{TakesBack};
 ghost use Rattle.xf_image.specs.Readings.{listed_in};
 ghost use Rattle.xf_inexact.specs.Whole.{SpdStands, WholeFits, whole_end};
 ghost use Rattle.xf_spd.specs.Slots.{PoolFits};
-ghost use Rattle.xf_policies.specs.Standing.{Stood, TakesBack, LeavesOthers, Started, AreLater};
+ghost use Rattle.xf_policies.specs.Standing.{Stood, LeavesOthers, Started, AreLater};
 
 use crate::counting::count_changes;
 use crate::slots::PolicySlots;

@@ -2,7 +2,6 @@
 use Rattle.std.proofs.Common.{ℕ, ◌≡◌, ◌≢◌, ◌<◌, ◌==◌, Bool, true, false, not, List, [], ◌∷◌, length, map, refl, ap, sym, ◌∙◌, subst, cond, All, eqb-true, eq-eqb, slice_index, ◌++◌, None, Some, filter_map}
 use Rattle.std.specs.List.{cons_option}
 use Rattle.std.specs.Prelude.{zip}
-use Rattle.std.proofs.lemmas.List.{length-map, get_or-map}
 use Rattle.std.proofs.lemmas.List.Elements.{All-nil, All-cons, All-head, All-tail}
 use Rattle.xf_types.specs.declared.call.Event.{Event}
 use Rattle.xf_types.specs.declared.call.Event.TheVariants.{StateSoft, StateExpired}
@@ -26,29 +25,29 @@ use Rattle.xf_rows.specs.declared.layout.Layout.{Layout}
 use Rattle.xf_rows.specs.Rows.{Row, entries_in, states_in, own_parts, value_of}
 use Rattle.xf_rows.specs.Values.{Beside, Keeps, AreValues, at}
 use Rattle.xf_rows.specs.Stands.{Stands}
-use Rattle.xf_rows.specs.Ticks.{row_ends, row_later, rows_later, all_aged, entry_later}
+use Rattle.xf_rows.specs.Ticks.{row_ends, row_later, rows_later, AreAged, entry_later}
 use Rattle.xf_rows.proofs.Lists.{row_slots, row_pairs}
 use Rattle.xf_rows.proofs.Keeping.{policies_alike}
 
-at_aged : (now : ℕ) (b : Beside) (slot : ℕ) → slot < length b.values → at (all_aged now b) slot ≡ aged now (at b slot)
-at_aged now b slot within = get_or-map (aged now) b.values slot Dead Dead within
+at_aged : (now : ℕ) (b c : Beside) (slot : ℕ) → AreAged now b c → slot < length b.values → c.held slot ≡ true → at c slot ≡ aged now (at b slot)
+at_aged now b c slot g within held = g.later slot within (subst (λ (h : ℕ → Bool). h slot ≡ true) g.held held)
 
 -- a row that stays has its value aged
-one_later : (now time : ℕ) (b : Beside) (r : Row) → r.0 < length b.values → row_ends now r ≡ false → Keeps time b r → Keeps now (all_aged now b) (row_later now r)
-one_later now time b r within stays keep = record {
+one_later : (now time : ℕ) (b c : Beside) (r : Row) → AreAged now b c → r.0 < length b.values → row_ends now r ≡ false → Keeps time b r → Keeps now c (row_later now r)
+one_later now time b c r g within stays keep = record {
   value = λ held.
-      at_aged now b r.0 within ∙ ap (λ (v : LocalView). aged now v) (keep.value held)
+      at_aged now b c r.0 g within held ∙ ap (λ (v : LocalView). aged now v) (keep.value (subst (λ (h : ℕ → Bool). h r.0 ≡ true) g.held held))
       ∙ ap (λ (t : Bool). cond t Dead (value_of now (row_later now r))) stays;
 }
 
-live_later : (now time : ℕ) (b : Beside) (rows : List Row) → Within (length b.values) (slots_in rows) → All (Keeps time b) rows
-    → All (Keeps now (all_aged now b)) (rows_later now rows)
-live_later now time b [] = λ w keeps. All-nil (Keeps now (all_aged now b))
-live_later now time b (r ∷ rows) = λ w keeps.
-    let rest : All (Keeps now (all_aged now b)) (rows_later now rows) = live_later now time b rows w.1 (All-tail (Keeps time b) r rows keeps) in
-    elim (row_ends now r) as (λ t. row_ends now r ≡ t → All (Keeps now (all_aged now b)) (map (row_later now) (cond (not t) (r ∷ without (row_ends now) rows) (without (row_ends now) rows)))) [
+live_later : (now time : ℕ) (b c : Beside) (rows : List Row) → AreAged now b c → Within (length b.values) (slots_in rows) → All (Keeps time b) rows
+    → All (Keeps now c) (rows_later now rows)
+live_later now time b c [] = λ g w keeps. All-nil (Keeps now c)
+live_later now time b c (r ∷ rows) = λ g w keeps.
+    let rest : All (Keeps now c) (rows_later now rows) = live_later now time b c rows g w.1 (All-tail (Keeps time b) r rows keeps) in
+    elim (row_ends now r) as (λ t. row_ends now r ≡ t → All (Keeps now c) (map (row_later now) (cond (not t) (r ∷ without (row_ends now) rows) (without (row_ends now) rows)))) [
       | true ↦ λ is. rest
-      | false ↦ λ is. All-cons (Keeps now (all_aged now b)) (row_later now r) (rows_later now rows) (one_later now time b r w.0 is (All-head (Keeps time b) r rows keeps)) rest
+      | false ↦ λ is. All-cons (Keeps now c) (row_later now r) (rows_later now rows) (one_later now time b c r g w.0 is (All-head (Keeps time b) r rows keeps)) rest
     ] refl
 
 -- the slot of a row that ends is dead
@@ -77,13 +76,14 @@ dead_later now time b slot (r ∷ rows) = λ held keeps dead.
     ] refl
 
 -- the values at a later time are those of the rows at that time
-pub values_later : (now time : ℕ) (b : Beside) (rows : List Row) → Within (length b.values) (slots_in rows) → AreValues b time rows
-    → AreValues (all_aged now b) now (rows_later now rows)
-values_later now time b rows within are = record {
-  live = live_later now time b rows within are.live;
+pub values_later : (now time : ℕ) (b c : Beside) (rows : List Row) → AreAged now b c → Within (length b.values) (slots_in rows) → AreValues b time rows
+    → AreValues c now (rows_later now rows)
+values_later now time b c rows g within are = record {
+  live = live_later now time b c rows g within are.live;
   dead = λ slot w held m.
-      let x : slot < length b.values = subst (λ (n : ℕ). slot < n) (length-map b.values (aged now)) w in
-      at_aged now b slot x ∙ dead_later now time b slot rows held are.live (are.dead slot x held) m;
+      let x : slot < length b.values = subst (λ (n : ℕ). slot < n) g.count w in
+      let mine : b.held slot ≡ true = subst (λ (h : ℕ → Bool). h slot ≡ true) g.held held in
+      at_aged now b c slot g x held ∙ dead_later now time b slot rows mine are.live (are.dead slot x mine) m;
 }
 
 -- records and own parts of the rows that are left
@@ -125,12 +125,12 @@ later_machine m now is =
     record { shown = kept.shown; own = kept.own }
 
 -- the words stand for the lists at a later time, and the values are aged
-pub stands_later : (layout : Layout) (i j : List ℕ) (b : Beside) (m : Machine) (now : ℕ) (es : List (ℕ × Policy)) (r : Stands layout i b m)
+pub stands_later : (layout : Layout) (i j : List ℕ) (b c : Beside) (m : Machine) (now : ℕ) (es : List (ℕ × Policy)) (r : Stands layout i b m)
     → SpdStands layout.policies j (record m.shown { policies = map (policy_later now) (without (policy_ends now) m.shown.policies) }) es
     → StatesStand layout.states j (record m.shown { states = records_in (entries_in (rows_later now r.rows)) }) (entries_in (rows_later now r.rows))
-    → slice_index j layout.clock ≡ now
-    → Stands layout j (all_aged now b) (at_time m now)
-stands_later layout i j b m now es r pol sta time =
+    → slice_index j layout.clock ≡ now → AreAged now b c
+    → Stands layout j c (at_time m now)
+stands_later layout i j b c m now es r pol sta time g =
     let within : Within (length b.values) (slots_in r.rows) =
     subst (λ (n : ℕ). Within n (slots_in r.rows)) (sym r.count) (subst (λ (xs : List ℕ). Within layout.states.slots xs) (row_slots r.rows) r.on_states.chained.within) in
     let ss : states_in (rows_later now r.rows) ≡ map (state_later now) (staying m now) =
@@ -144,24 +144,28 @@ stands_later layout i j b m now es r pol sta time =
           (record { states = sym ss; next_seq = refl; next_sid = refl; room = refl }) sta;
       own = own_mapped now (without (row_ends now) r.rows) ∙ ap (λ (xs : List (Sa × Own)). map own_part xs) (staying_are layout i b m now r);
       time = time;
-      values = values_later now m.shown.time b r.rows within r.values;
-      count = length-map b.values (aged now) ∙ r.count;
+      values = values_later now m.shown.time b c r.rows g within r.values;
+      count = g.count ∙ r.count;
       machine = later_machine m now r.machine;
     }
 
 -- the events that the slots' values tell
-events_held : (now time : ℕ) (b : Beside) (rows : List Row) → ((slot : ℕ) → b.held slot ≡ true) → All (Keeps time b) rows
+events_held : (now time : ℕ) (b : Beside) (rows : List Row) → All (λ (slot : ℕ). b.held slot ≡ true) (slots_in rows) → All (Keeps time b) rows
     → filter_map (λ (slot : ℕ). event_of now (at b slot)) (slots_in rows) ≡ filter_map (state_event now) (records_in rows)
 events_held now time b [] = λ held keeps. refl
 events_held now time b (r ∷ rows) = λ held keeps.
     let keep : Keeps time b r = All-head (Keeps time b) r rows keeps in
-    ap (λ (v : LocalView). cons_option (event_of now v) (filter_map (λ (slot : ℕ). event_of now (at b slot)) (slots_in rows))) (keep.value (held r.0))
-    ∙ ap (λ (es : List Event). cons_option (state_event now r.1) es) (events_held now time b rows held (All-tail (Keeps time b) r rows keeps))
+    let mine : b.held r.0 ≡ true = All-head (λ (slot : ℕ). b.held slot ≡ true) r.0 (slots_in rows) held in
+    let rest : All (λ (slot : ℕ). b.held slot ≡ true) (slots_in rows) = All-tail (λ (slot : ℕ). b.held slot ≡ true) r.0 (slots_in rows) held in
+    ap (λ (v : LocalView). cons_option (event_of now v) (filter_map (λ (slot : ℕ). event_of now (at b slot)) (slots_in rows))) (keep.value mine)
+    ∙ ap (λ (es : List Event). cons_option (state_event now r.1) es) (events_held now time b rows rest (All-tail (Keeps time b) r rows keeps))
 
-pub events_are : (layout : Layout) (i : List ℕ) (b : Beside) (m : Machine) (now : ℕ) (r : Stands layout i b m) → ((slot : ℕ) → b.held slot ≡ true)
+pub events_are : (layout : Layout) (i : List ℕ) (b : Beside) (m : Machine) (now : ℕ) (r : Stands layout i b m)
+    → All (λ (slot : ℕ). b.held slot ≡ true) (slots_in (entries_in r.rows))
     → filter_map (λ (slot : ℕ). event_of now (at b slot)) (slots_in (entries_in r.rows)) ≡ filter_map (state_event now) (with_own m)
 events_are layout i b m now r held =
-    ap (λ (xs : List ℕ). filter_map (λ (slot : ℕ). event_of now (at b slot)) xs) (row_slots r.rows) ∙ events_held now m.shown.time b r.rows held r.values.live
+    ap (λ (xs : List ℕ). filter_map (λ (slot : ℕ). event_of now (at b slot)) xs) (row_slots r.rows)
+    ∙ events_held now m.shown.time b r.rows (subst (λ (xs : List ℕ). All (λ (slot : ℕ). b.held slot ≡ true) xs) (row_slots r.rows) held) r.values.live
     ∙ ap (λ (xs : List (Sa × Own)). filter_map (state_event now) xs) (sym (pairs_are layout i b m r))
 
 -- one entry after another at a later time

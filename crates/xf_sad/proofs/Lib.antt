@@ -6,3 +6,4 @@ pub mod Updates
 pub mod Fresh
 pub mod Acquired
 pub mod Begins
+pub mod Places

@@ -40,6 +40,7 @@ impl Sad {
         ensures refused { IsErr result → C.words c.new ≡ C.words c.old }
         ensures frame { Frame self.now.area.base (end_of self.now.area) (C.words c.old) (C.words c.new) }
         ensures fault { IfErr result IsAddFault }
+        ensures given { IfOk result (λ slot. P.gives pool.old slot) }
         ensures returned { IsOk result → Where (P.returned pool.new) (replaced_in self.now.area (C.words c.old) spec.now) }
         ensures reply { (s : Shown) (es : List (ℕ × Sa)) → IsAt s now → StatesStand self.now.area (C.words c.old) s es → PoolFits (P.capacity pool.old) (P.taken pool.old) (P.gives pool.old) (P.takes pool.old) self.now.area.slots (listed_in self.now.area (C.words c.old)) → ReplyIs (P.held pool.new) s (λ t. (state_add t spec.now).reply) (sid_told self.now.area (C.words c.new)) result }
         ensures stands { (s : Shown) (es : List (ℕ × Sa)) → IsAt s now → StatesStand self.now.area (C.words c.old) s es → PoolFits (P.capacity pool.old) (P.taken pool.old) (P.gives pool.old) (P.takes pool.old) self.now.area.slots (listed_in self.now.area (C.words c.old)) → IfOk result (λ slot. Comes self.now.area (C.words c.new) s es (P.gives pool.old) (slot_found (larval_in spec.now es)) slot (state_add s spec.now)) }

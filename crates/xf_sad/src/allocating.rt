@@ -66,6 +66,7 @@ impl Sad {
         ensures refused { IsErr result → C.words c.new ≡ C.words c.old }
         ensures frame { Frame self.now.area.base (end_of self.now.area) (C.words c.old) (C.words c.new) }
         ensures fault { IfErr result IsAllocFault }
+        ensures given { IfOk result (λ slot. P.gives pool.old slot) }
         ensures reply { (s : Shown) (es : List (ℕ × Sa)) → IsAt s now → StatesStand self.now.area (C.words c.old) s es → PoolFits (P.capacity pool.old) (P.taken pool.old) (P.gives pool.old) (P.takes pool.old) self.now.area.slots (listed_in self.now.area (C.words c.old)) → ReplyIs (P.held pool.new) s (λ t. (rule.alloc_spi t spec.now).reply) (spi_told self.now.area (C.words c.new)) result }
         ensures stands { (s : Shown) (es : List (ℕ × Sa)) → IsAt s now → StatesStand self.now.area (C.words c.old) s es → PoolFits (P.capacity pool.old) (P.taken pool.old) (P.gives pool.old) (P.takes pool.old) self.now.area.slots (listed_in self.now.area (C.words c.old)) → IfOk result (λ slot. Comes self.now.area (C.words c.new) s es (P.gives pool.old) None slot (rule.alloc_spi s spec.now)) }
         ensures pool { (s : Shown) (es : List (ℕ × Sa)) → P.lasts pool.old ≡ true → IsAt s now → StatesStand self.now.area (C.words c.old) s es → PoolFits (P.capacity pool.old) (P.taken pool.old) (P.gives pool.old) (P.takes pool.old) self.now.area.slots (listed_in self.now.area (C.words c.old)) → PoolFits (P.capacity pool.new) (P.taken pool.new) (P.gives pool.new) (P.takes pool.new) self.now.area.slots (listed_in self.now.area (C.words c.new)) }

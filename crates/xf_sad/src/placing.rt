@@ -136,6 +136,7 @@ impl Sad {
         ensures refused { IsErr result → C.words c.new ≡ C.words c.old }
         ensures frame { Frame self.now.area.base (end_of self.now.area) (C.words c.old) (C.words c.new) }
         ensures fault { IfErr result IsRoomFault }
+        ensures given { IfOk result (λ slot. P.gives pool.old slot) }
         ensures returned { IsOk result → Where (P.returned pool.new) gone }
         ensures full { (s : Shown) (es : List (ℕ × Sa)) → StatesStand self.now.area (C.words c.old) s es → PoolFits (P.capacity pool.old) (P.taken pool.old) (P.gives pool.old) (P.takes pool.old) self.now.area.slots (listed_in self.now.area (C.words c.old)) → IfErr result (λ fault. IsOutOfRoom s (P.held pool.new) fault) }
         ensures placed { (s : Shown) (es : List (ℕ × Sa)) → s.next_sid < 2 ^ 63 → s.time ≡ now → Where (IsListed es) gone → StatesStand self.now.area (C.words c.old) s es → PoolFits (P.capacity pool.old) (P.taken pool.old) (P.gives pool.old) (P.takes pool.old) self.now.area.slots (listed_in self.now.area (C.words c.old)) → IfOk result (λ slot. Placed self.now.area (C.words c.new) s es (P.gives pool.old) gone slot (record { spec = spec.now; larval = larval })) }

@@ -1,5 +1,5 @@
 //! A state leaves, and its slot goes back to the pool.
-ghost use Rattle.std.specs.Prelude.{◌≡◌, ℕ, ◌<◌, Bool, true, List, ◌∷◌, ◌++◌};
+ghost use Rattle.std.specs.Prelude.{◌≡◌, ℕ, ◌+◌, ◌<◌, Bool, true, List, ◌∷◌, ◌++◌};
 ghost use Rattle.xf_types.specs.declared.state.Sa.{Sa};
 ghost use Rattle.xf_types.specs.Machine.{Shown};
 ghost use Rattle.xf_index.specs.Indexes.{records_in};
@@ -27,6 +27,7 @@ impl Sad {
         ensures lasts { P.lasts pool.new ≡ P.lasts pool.old }
         ensures held { P.held pool.new ≡ P.held pool.old }
         ensures returned { P.returned pool.new slot }
+        ensures out { P.taken pool.new + 1 ≡ P.taken pool.old }
         ensures frame { Frame self.now.area.base (end_of self.now.area) (C.words c.old) (C.words c.new) }
         ensures stands { (shown : Shown) (front back : List (ℕ × Sa)) → StatesStand self.now.area (C.words c.old) shown (front ++ ((slot, s.now) ∷ back)) → StatesStand self.now.area (C.words c.new) (with_states shown (records_in (front ++ back))) (front ++ back) }
         ensures pool { (shown : Shown) (front back : List (ℕ × Sa)) → P.lasts pool.old ≡ true → StatesStand self.now.area (C.words c.old) shown (front ++ ((slot, s.now) ∷ back)) → PoolFits (P.capacity pool.old) (P.taken pool.old) (P.gives pool.old) (P.takes pool.old) self.now.area.slots (listed_in self.now.area (C.words c.old)) → PoolFits (P.capacity pool.new) (P.taken pool.new) (P.gives pool.new) (P.takes pool.new) self.now.area.slots (listed_in self.now.area (C.words c.new)) }
@@ -49,6 +50,7 @@ impl Sad {
         ensures frame { Frame self.now.area.base (end_of self.now.area) (C.words c.old) (C.words c.new) }
         ensures begun { (s : Shown) (front back : List (ℕ × Sa)) (r : Sa) → StatesStand self.now.area (C.words c.old) s (front ++ ((slot, r) ∷ back)) → C.begun c.new ≡ true }
         ensures returned { (s : Shown) (front back : List (ℕ × Sa)) (r : Sa) → StatesStand self.now.area (C.words c.old) s (front ++ ((slot, r) ∷ back)) → P.returned pool.new slot }
+        ensures out { (s : Shown) (front back : List (ℕ × Sa)) (r : Sa) → StatesStand self.now.area (C.words c.old) s (front ++ ((slot, r) ∷ back)) → P.taken pool.new + 1 ≡ P.taken pool.old }
         ensures stands { (s : Shown) (front back : List (ℕ × Sa)) (r : Sa) → StatesStand self.now.area (C.words c.old) s (front ++ ((slot, r) ∷ back)) → StatesStand self.now.area (C.words c.new) (with_states s (records_in (front ++ back))) (front ++ back) }
         ensures pool { (s : Shown) (front back : List (ℕ × Sa)) (r : Sa) → P.lasts pool.old ≡ true → StatesStand self.now.area (C.words c.old) s (front ++ ((slot, r) ∷ back)) → PoolFits (P.capacity pool.old) (P.taken pool.old) (P.gives pool.old) (P.takes pool.old) self.now.area.slots (listed_in self.now.area (C.words c.old)) → PoolFits (P.capacity pool.new) (P.taken pool.new) (P.gives pool.new) (P.takes pool.new) self.now.area.slots (listed_in self.now.area (C.words c.new)) }
     {

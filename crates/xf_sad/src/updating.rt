@@ -1,5 +1,5 @@
 //! A listed state is updated: a larval one leaves for a new one, one in use is refreshed.
-ghost use Rattle.std.specs.Prelude.{◌≡◌, ℕ, ◌<◌, Bool, true, false, List, ◌∷◌, ◌++◌, Some, Ok, IsErr, IfErr, IfOk, is_ok, if◌then◌else◌};
+ghost use Rattle.std.specs.Prelude.{◌≡◌, ℕ, ◌<◌, ◌⊎◌, Bool, true, false, List, ◌∷◌, ◌++◌, Some, Ok, IsErr, IfErr, IfOk, is_ok, if◌then◌else◌};
 ghost use Rattle.xf_types.specs.declared.state.Sa.{Sa};
 ghost use Rattle.xf_types.specs.Changes.{shown_after};
 ghost use Rattle.xf_types.specs.Machine.{Shown};
@@ -45,6 +45,7 @@ impl Sad {
         ensures refused { IsErr result → C.words c.new ≡ C.words c.old }
         ensures frame { Frame self.now.area.base (end_of self.now.area) (C.words c.old) (C.words c.new) }
         ensures fault { IfErr result IsUpdateFault }
+        ensures given { IfOk result (λ new. P.gives pool.old new ⊎ (new ≡ slot)) }
         ensures reply { (s : Shown) (front back : List (ℕ × Sa)) → IsAt s now → StatesStand self.now.area (C.words c.old) s (front ++ ((slot, old.now) ∷ back)) → PoolFits (P.capacity pool.old) (P.taken pool.old) (P.gives pool.old) (P.takes pool.old) self.now.area.slots (listed_in self.now.area (C.words c.old)) → ReplyIs (P.held pool.new) s (λ t. (state_updated t spec.now (Some old.now)).reply) (sid_told self.now.area (C.words c.new)) result }
         ensures larval { (s : Shown) (front back : List (ℕ × Sa)) → old.now.larval ≡ true → IsAt s now → StatesStand self.now.area (C.words c.old) s (front ++ ((slot, old.now) ∷ back)) → PoolFits (P.capacity pool.old) (P.taken pool.old) (P.gives pool.old) (P.takes pool.old) self.now.area.slots (listed_in self.now.area (C.words c.old)) → IfOk result (λ new. Comes self.now.area (C.words c.new) s (front ++ ((slot, old.now) ∷ back)) (P.gives pool.old) (Some slot) new (state_updated s spec.now (Some old.now))) }
         ensures used { (s : Shown) (front back : List (ℕ × Sa)) → old.now.larval ≡ false → IsAt s now → StatesStand self.now.area (C.words c.old) s (front ++ ((slot, old.now) ∷ back)) → (result ≡ Ok slot) × StatesStand self.now.area (C.words c.new) (shown_after s (state_updated s spec.now (Some old.now)).change) (front ++ ((slot, refreshed_record spec.now old.now) ∷ back)) }
@@ -80,6 +81,7 @@ impl Sad {
         ensures refused { IsErr result → C.words c.new ≡ C.words c.old }
         ensures frame { Frame self.now.area.base (end_of self.now.area) (C.words c.old) (C.words c.new) }
         ensures fault { IfErr result IsUpdateFault }
+        ensures given { IfOk result (λ new. P.gives pool.old new ⊎ (new ≡ slot)) }
         ensures reply { (s : Shown) (front back : List (ℕ × Sa)) (old : Sa) → IsAt s now → StatesStand self.now.area (C.words c.old) s (front ++ ((slot, old) ∷ back)) → PoolFits (P.capacity pool.old) (P.taken pool.old) (P.gives pool.old) (P.takes pool.old) self.now.area.slots (listed_in self.now.area (C.words c.old)) → ReplyIs (P.held pool.new) s (λ t. (state_updated t spec.now (Some old)).reply) (sid_told self.now.area (C.words c.new)) result }
         ensures larval { (s : Shown) (front back : List (ℕ × Sa)) (old : Sa) → old.larval ≡ true → IsAt s now → StatesStand self.now.area (C.words c.old) s (front ++ ((slot, old) ∷ back)) → PoolFits (P.capacity pool.old) (P.taken pool.old) (P.gives pool.old) (P.takes pool.old) self.now.area.slots (listed_in self.now.area (C.words c.old)) → IfOk result (λ new. Comes self.now.area (C.words c.new) s (front ++ ((slot, old) ∷ back)) (P.gives pool.old) (Some slot) new (state_updated s spec.now (Some old))) }
         ensures used { (s : Shown) (front back : List (ℕ × Sa)) (old : Sa) → old.larval ≡ false → IsAt s now → StatesStand self.now.area (C.words c.old) s (front ++ ((slot, old) ∷ back)) → (result ≡ Ok slot) × StatesStand self.now.area (C.words c.new) (shown_after s (state_updated s spec.now (Some old)).change) (front ++ ((slot, refreshed_record spec.now old) ∷ back)) }
@@ -112,6 +114,7 @@ impl Sad {
         ensures refused { IsErr result → C.words c.new ≡ C.words c.old }
         ensures frame { Frame self.now.area.base (end_of self.now.area) (C.words c.old) (C.words c.new) }
         ensures fault { IfErr result IsUpdateFault }
+        ensures given { IfOk result (λ new. P.gives pool.old new ⊎ (named_in self.now.area (C.words c.old) (id_of spec.now) ≡ Some new)) }
         ensures reply { (s : Shown) (es : List (ℕ × Sa)) → IsAt s now → StatesStand self.now.area (C.words c.old) s es → PoolFits (P.capacity pool.old) (P.taken pool.old) (P.gives pool.old) (P.takes pool.old) self.now.area.slots (listed_in self.now.area (C.words c.old)) → ReplyIs (P.held pool.new) s (λ t. (state_update t spec.now).reply) (sid_told self.now.area (C.words c.new)) result }
         ensures larval { (s : Shown) (es : List (ℕ × Sa)) (slot : ℕ) (old : Sa) → latest_in (has_id (id_of spec.now)) es ≡ Some (slot, old) → old.larval ≡ true → IsAt s now → StatesStand self.now.area (C.words c.old) s es → PoolFits (P.capacity pool.old) (P.taken pool.old) (P.gives pool.old) (P.takes pool.old) self.now.area.slots (listed_in self.now.area (C.words c.old)) → IfOk result (λ new. Comes self.now.area (C.words c.new) s es (P.gives pool.old) (Some slot) new (state_update s spec.now)) }
         ensures used { (s : Shown) (front back : List (ℕ × Sa)) (slot : ℕ) (old : Sa) → latest_in (has_id (id_of spec.now)) (front ++ ((slot, old) ∷ back)) ≡ Some (slot, old) → old.larval ≡ false → IsAt s now → StatesStand self.now.area (C.words c.old) s (front ++ ((slot, old) ∷ back)) → (result ≡ Ok slot) × StatesStand self.now.area (C.words c.new) (shown_after s (state_update s spec.now).change) (front ++ ((slot, refreshed_record spec.now old) ∷ back)) }

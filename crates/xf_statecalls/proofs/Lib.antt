@@ -10,3 +10,4 @@ pub mod Come
 pub mod Renewed
 pub mod Named
 pub mod Picked
+pub mod Placed

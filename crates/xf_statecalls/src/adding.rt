@@ -16,6 +16,7 @@ ghost use Rattle.xf_sadlist.specs.Listed.{next_sid_in};
 ghost use Rattle.xf_sad.specs.Changes.{IsAt, Comes};
 ghost use Rattle.xf_sad.specs.Lookups.{replaced_in};
 ghost use Rattle.xf_sad.specs.Replies.{ReplyIs, sid_told};
+ghost use Rattle.xf_sad.specs.Places.{KeepsPlaces, SlotCame};
 ghost use Rattle.xf_sad.specs.Slots.{PoolFits, Where, listed_in};
 ghost use Rattle.xf_rows.specs.Layouts.{Fits};
 ghost use Rattle.xf_rows.specs.Replies.{Answers};
@@ -87,6 +88,8 @@ pub fn state_add_ready<D: Parts, P: Pool>(
     ensures hidden { D.hidden parts.new ≡ D.hidden parts.old }
     ensures capacity { P.capacity pool.new ≡ P.capacity pool.old }
     ensures lasts { P.lasts pool.new ≡ P.lasts pool.old }
+    ensures given { is_refusal_of result ≡ false → SlotCame (P.gives pool.old) gone (listed_in layout.now.states (D.words parts.old)) (listed_in layout.now.states (D.words parts.new)) }
+    ensures places { KeepsPlaces layout.now.states (D.beside parts.old).held (D.words parts.old) (D.words parts.new) }
     ensures others { LeavesOthers layout.now (D.hidden parts.old) (D.words parts.old) (D.words parts.new) (D.beside parts.old) (D.beside parts.new) }
     ensures memory { result ≢ Reply.NoMemory }
     ensures settled { P.held pool.new ≡ 0 → is_contended result ≡ false }
@@ -105,18 +108,60 @@ pub fn state_add_ready<D: Parts, P: Pool>(
 }
 
 /// What is told where no memory is found for the window of a new state: that another state is in its way, and else that.
-fn without_window<D: Parts>(layout: &Layout, parts: &mut D, spec: &SaSpec) -> Reply
-    requires { Fits layout.now (D.size parts.old) }
+fn without_window<D: Parts>(
+    layout: &Layout,
+    parts: &mut D,
+    spec: &SaSpec,
+    gone: Option<u32>,
+) -> Reply
+    requires fits { Fits layout.now (D.size parts.old) }
+    requires gone { Below layout.now.states.slots gone }
+    requires found { (s : Shown) (es : List (ℕ × Sa)) → StatesStand layout.now.states (D.words parts.old) s es → gone ≡ slot_found (larval_in spec.now es) }
     ensures size { D.size parts.new ≡ D.size parts.old }
     ensures hidden { D.hidden parts.new ≡ D.hidden parts.old }
     ensures same { IsSame (D.words parts.old) (D.words parts.new) (D.beside parts.old) (D.beside parts.new) (D.begun parts.old) (D.begun parts.new) }
+    ensures refusal { is_refusal_of result ≡ true }
     ensures settled { is_contended result ≡ false }
     ensures answer { (m : Machine) → Stands layout.now (D.words parts.old) (D.beside parts.old) m → Answers layout.now (D.words parts.new) (D.beside parts.new) m (StateAdd spec.now) result }
 {
-    let gone = replaced_here(layout, parts, spec);
     match way_here(layout, parts, spec, gone) {
         None => Reply::NoMemory,
         Some(sid) => Reply::StateExists(sid),
+    }
+}
+
+/// Lists a new state in use, in the place of the larval one in the slot `gone`, where one is named, whose turn is held. StateExists, Full or NoMemory
+/// where it is refused.
+pub fn state_add_at<D: Parts, P: Pool>(
+    alloc: Global,
+    layout: &Layout,
+    parts: &mut D,
+    pool: &mut P,
+    spec: &SaSpec,
+    gone: Option<u32>,
+) -> Reply
+    requires ready { IsReady layout.now (D.size parts.old) (D.hidden parts.old) (D.beside parts.old) (P.spent pool.old) (P.gives pool.old) }
+    requires stands { Stood layout.now (D.words parts.old) (D.beside parts.old) }
+    requires pool { PoolFits (P.capacity pool.old) (P.taken pool.old) (P.gives pool.old) (P.takes pool.old) layout.now.states.slots (listed_in layout.now.states (D.words parts.old)) }
+    requires young { next_sid_in layout.now.states (D.words parts.old) < 2 ^ 63 }
+    requires gone { Below layout.now.states.slots gone }
+    requires held { Where (λ slot. (D.beside parts.old).held slot ≡ true) gone }
+    requires found { (s : Shown) (es : List (ℕ × Sa)) → StatesStand layout.now.states (D.words parts.old) s es → gone ≡ slot_found (larval_in spec.now es) }
+    ensures size { D.size parts.new ≡ D.size parts.old }
+    ensures hidden { D.hidden parts.new ≡ D.hidden parts.old }
+    ensures capacity { P.capacity pool.new ≡ P.capacity pool.old }
+    ensures lasts { P.lasts pool.new ≡ P.lasts pool.old }
+    ensures given { is_refusal_of result ≡ false → SlotCame (P.gives pool.old) gone (listed_in layout.now.states (D.words parts.old)) (listed_in layout.now.states (D.words parts.new)) }
+    ensures places { KeepsPlaces layout.now.states (D.beside parts.old).held (D.words parts.old) (D.words parts.new) }
+    ensures others { LeavesOthers layout.now (D.hidden parts.old) (D.words parts.old) (D.words parts.new) (D.beside parts.old) (D.beside parts.new) }
+    ensures settled { P.held pool.new ≡ 0 → is_contended result ≡ false }
+    ensures refused { IsTrue (is_refusal_of result) → IsSame (D.words parts.old) (D.words parts.new) (D.beside parts.old) (D.beside parts.new) (D.begun parts.old) (D.begun parts.new) }
+    ensures answer { (m : Machine) → Stands layout.now (D.words parts.old) (D.beside parts.old) m → Answers layout.now (D.words parts.new) (D.beside parts.new) m (StateAdd spec.now) result }
+    ensures pool { P.lasts pool.old ≡ true → PoolFits (P.capacity pool.new) (P.taken pool.new) (P.gives pool.new) (P.takes pool.new) layout.now.states.slots (listed_in layout.now.states (D.words parts.new)) }
+{
+    match window_for(alloc, spec) {
+        Err(_) => without_window(layout, parts, spec, gone),
+        Ok(window) => state_add_ready(layout, parts, pool, spec, window, gone),
     }
 }
 
@@ -138,17 +183,14 @@ pub fn state_add<D: Parts, P: Pool>(
     ensures hidden { D.hidden parts.new ≡ D.hidden parts.old }
     ensures capacity { P.capacity pool.new ≡ P.capacity pool.old }
     ensures lasts { P.lasts pool.new ≡ P.lasts pool.old }
+    ensures given { is_refusal_of result ≡ false → SlotCame (P.gives pool.old) (replaced_in layout.now.states (D.words parts.old) spec.now) (listed_in layout.now.states (D.words parts.old)) (listed_in layout.now.states (D.words parts.new)) }
+    ensures places { KeepsPlaces layout.now.states (D.beside parts.old).held (D.words parts.old) (D.words parts.new) }
     ensures others { LeavesOthers layout.now (D.hidden parts.old) (D.words parts.old) (D.words parts.new) (D.beside parts.old) (D.beside parts.new) }
     ensures settled { P.held pool.new ≡ 0 → is_contended result ≡ false }
     ensures refused { IsTrue (is_refusal_of result) → IsSame (D.words parts.old) (D.words parts.new) (D.beside parts.old) (D.beside parts.new) (D.begun parts.old) (D.begun parts.new) }
     ensures answer { (m : Machine) → Stands layout.now (D.words parts.old) (D.beside parts.old) m → Answers layout.now (D.words parts.new) (D.beside parts.new) m (StateAdd spec.now) result }
     ensures pool { P.lasts pool.old ≡ true → PoolFits (P.capacity pool.new) (P.taken pool.new) (P.gives pool.new) (P.takes pool.new) layout.now.states.slots (listed_in layout.now.states (D.words parts.new)) }
 {
-    match window_for(alloc, spec) {
-        Err(_) => without_window(layout, parts, spec),
-        Ok(window) => {
-            let gone = replaced_here(layout, parts, spec);
-            state_add_ready(layout, parts, pool, spec, window, gone)
-        }
-    }
+    let gone = replaced_here(layout, parts, spec);
+    state_add_at(alloc, layout, parts, pool, spec, gone)
 }

@@ -12,6 +12,7 @@ ghost use Rattle.xf_sadimage.specs.States.{StatesStand};
 ghost use Rattle.xf_sadlist.specs.Listed.{next_sid_in};
 ghost use Rattle.xf_sad.specs.Changes.{IsAt, Comes};
 ghost use Rattle.xf_sad.specs.Replies.{ReplyIs, spi_told};
+ghost use Rattle.xf_sad.specs.Places.{KeepsPlaces, SlotCame};
 ghost use Rattle.xf_sad.specs.Slots.{PoolFits, listed_in};
 ghost use Rattle.xf_rows.specs.Layouts.{Fits};
 ghost use Rattle.xf_rows.specs.Replies.{Answers};
@@ -107,6 +108,8 @@ pub fn alloc_spi<D: Parts, P: Pool>(
     ensures hidden { D.hidden parts.new ≡ D.hidden parts.old }
     ensures capacity { P.capacity pool.new ≡ P.capacity pool.old }
     ensures lasts { P.lasts pool.new ≡ P.lasts pool.old }
+    ensures given { is_refusal_of result ≡ false → SlotCame (P.gives pool.old) None (listed_in layout.now.states (D.words parts.old)) (listed_in layout.now.states (D.words parts.new)) }
+    ensures places { KeepsPlaces layout.now.states (D.beside parts.old).held (D.words parts.old) (D.words parts.new) }
     ensures others { LeavesOthers layout.now (D.hidden parts.old) (D.words parts.old) (D.words parts.new) (D.beside parts.old) (D.beside parts.new) }
     ensures memory { result ≢ Reply.NoMemory }
     ensures settled { P.held pool.new ≡ 0 → is_contended result ≡ false }

@@ -11,6 +11,7 @@ ghost use Rattle.xf_index.specs.Finds.{slot_found};
 ghost use Rattle.xf_sadidx.specs.Founds.{latest_in};
 ghost use Rattle.xf_sadidx.specs.Layout.{record_place};
 ghost use Rattle.xf_sadimage.specs.States.{StatesStand};
+ghost use Rattle.xf_sad.specs.Places.{KeepsPlaces, slots_but};
 ghost use Rattle.xf_sad.specs.Slots.{PoolFits, listed_in};
 ghost use Rattle.xf_rows.specs.Layouts.{Fits};
 ghost use Rattle.xf_rows.specs.Replies.{Answers};
@@ -58,6 +59,10 @@ pub fn state_delete_ready<D: Parts, P: Pool>(
     ensures hidden { D.hidden parts.new ≡ D.hidden parts.old }
     ensures capacity { P.capacity pool.new ≡ P.capacity pool.old }
     ensures lasts { P.lasts pool.new ≡ P.lasts pool.old }
+    ensures returned { P.returned pool.new slot }
+    ensures out { P.taken pool.new ≡ length (listed_in layout.now.states (D.words parts.new)) }
+    ensures list { listed_in layout.now.states (D.words parts.new) ≡ slots_but (Some slot) (listed_in layout.now.states (D.words parts.old)) }
+    ensures places { KeepsPlaces layout.now.states (D.beside parts.old).held (D.words parts.old) (D.words parts.new) }
     ensures others { LeavesOthers layout.now (D.hidden parts.old) (D.words parts.old) (D.words parts.new) (D.beside parts.old) (D.beside parts.new) }
     ensures settled { is_contended result ≡ false }
     ensures done { is_refusal_of result ≡ false }
@@ -84,6 +89,8 @@ pub fn state_delete<D: Parts, P: Pool>(
     ensures hidden { D.hidden parts.new ≡ D.hidden parts.old }
     ensures capacity { P.capacity pool.new ≡ P.capacity pool.old }
     ensures lasts { P.lasts pool.new ≡ P.lasts pool.old }
+    ensures out { P.taken pool.new ≡ length (listed_in layout.now.states (D.words parts.new)) }
+    ensures places { KeepsPlaces layout.now.states (D.beside parts.old).held (D.words parts.old) (D.words parts.new) }
     ensures others { LeavesOthers layout.now (D.hidden parts.old) (D.words parts.old) (D.words parts.new) (D.beside parts.old) (D.beside parts.new) }
     ensures settled { is_contended result ≡ false }
     ensures refused { IsTrue (is_refusal_of result) → IsSame (D.words parts.old) (D.words parts.new) (D.beside parts.old) (D.beside parts.new) (D.begun parts.old) (D.begun parts.new) }

@@ -20,7 +20,7 @@ mod updating;
 mod values;
 mod windows;
 
-pub use adding::{state_add, state_add_ready};
+pub use adding::{state_add, state_add_at, state_add_ready};
 pub use allocating::alloc_spi;
 pub use counting::state_count;
 pub use deleting::{state_delete, state_delete_ready};
@@ -30,5 +30,5 @@ pub use laws::conditions;
 pub use leaving::{state_deleteall, state_flush};
 pub use listing::state_list;
 pub use refreshing::state_refresh_ready;
-pub use updating::{state_update, state_update_ready};
+pub use updating::{state_update, state_update_at, state_update_ready};
 pub use windows::window_for;

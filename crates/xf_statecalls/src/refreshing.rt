@@ -14,6 +14,7 @@ ghost use Rattle.xf_sadidx.specs.Founds.{latest_in};
 ghost use Rattle.xf_sadidx.specs.Layout.{end_of, record_at};
 ghost use Rattle.xf_sadimage.specs.States.{StatesStand};
 ghost use Rattle.xf_sadlist.specs.Listed.{with_states};
+ghost use Rattle.xf_sad.specs.Places.{KeepsPlaces};
 ghost use Rattle.xf_sad.specs.Slots.{listed_in};
 ghost use Rattle.xf_local.specs.View.{MayHave, renewed};
 ghost use Rattle.xf_rows.specs.Layouts.{Fits};
@@ -92,6 +93,7 @@ pub fn state_refresh_ready<D: Parts>(
     ensures others { LeavesOthers layout.now (D.hidden parts.old) (D.words parts.old) (D.words parts.new) (D.beside parts.old) (D.beside parts.new) }
     ensures done { is_refusal_of result ≡ false }
     ensures settled { is_contended result ≡ false }
+    ensures places { KeepsPlaces layout.now.states (D.beside parts.old).held (D.words parts.old) (D.words parts.new) }
     ensures slots { listed_in layout.now.states (D.words parts.new) ≡ listed_in layout.now.states (D.words parts.old) }
     ensures answer { (m : Machine) → Stands layout.now (D.words parts.old) (D.beside parts.old) m → Answers layout.now (D.words parts.new) (D.beside parts.new) m (StateUpdate spec.now) result }
 {

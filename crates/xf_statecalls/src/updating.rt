@@ -1,5 +1,5 @@
 //! The state that an id names is updated: a larval one leaves for a new one, one in use is refreshed.
-ghost use Rattle.std.specs.Prelude.{◌≡◌, ◌≢◌, ℕ, ◌<◌, ◌^◌, Bool, true, false, List, Some, IsErr, IfOk, is_ok, IsTrue, if◌then◌else◌};
+ghost use Rattle.std.specs.Prelude.{◌≡◌, ◌≢◌, ℕ, ◌<◌, ◌^◌, Bool, true, false, List, Some, IsErr, IfOk, is_ok, IsTrue, if◌then◌else◌, ◌⊎◌};
 ghost use Rattle.xf_types.specs.declared.call.Call.TheVariants.{StateUpdate};
 ghost use Rattle.xf_types.specs.declared.state.Sa.{Sa};
 ghost use Rattle.xf_types.specs.Codes.{is_refusal_of};
@@ -17,6 +17,7 @@ ghost use Rattle.xf_sadlist.specs.Listed.{next_sid_in};
 ghost use Rattle.xf_sad.specs.Changes.{IsAt, Comes};
 ghost use Rattle.xf_sad.specs.Lookups.{named_in};
 ghost use Rattle.xf_sad.specs.Replies.{ReplyIs, sid_told};
+ghost use Rattle.xf_sad.specs.Places.{KeepsPlaces, SlotCame};
 ghost use Rattle.xf_sad.specs.Slots.{PoolFits, Where, listed_in};
 ghost use Rattle.xf_rows.specs.Layouts.{Fits};
 ghost use Rattle.xf_rows.specs.Replies.{Answers};
@@ -106,6 +107,8 @@ pub fn state_update_ready<D: Parts, P: Pool>(
     ensures hidden { D.hidden parts.new ≡ D.hidden parts.old }
     ensures capacity { P.capacity pool.new ≡ P.capacity pool.old }
     ensures lasts { P.lasts pool.new ≡ P.lasts pool.old }
+    ensures given { is_refusal_of result ≡ false → SlotCame (P.gives pool.old) (Some slot) (listed_in layout.now.states (D.words parts.old)) (listed_in layout.now.states (D.words parts.new)) }
+    ensures places { KeepsPlaces layout.now.states (D.beside parts.old).held (D.words parts.old) (D.words parts.new) }
     ensures others { LeavesOthers layout.now (D.hidden parts.old) (D.words parts.old) (D.words parts.new) (D.beside parts.old) (D.beside parts.new) }
     ensures memory { result ≢ Reply.NoMemory }
     ensures settled { P.held pool.new ≡ 0 → is_contended result ≡ false }
@@ -144,6 +147,8 @@ fn update_larval<D: Parts, P: Pool>(
     ensures hidden { D.hidden parts.new ≡ D.hidden parts.old }
     ensures capacity { P.capacity pool.new ≡ P.capacity pool.old }
     ensures lasts { P.lasts pool.new ≡ P.lasts pool.old }
+    ensures given { is_refusal_of result ≡ false → SlotCame (P.gives pool.old) (Some slot) (listed_in layout.now.states (D.words parts.old)) (listed_in layout.now.states (D.words parts.new)) }
+    ensures places { KeepsPlaces layout.now.states (D.beside parts.old).held (D.words parts.old) (D.words parts.new) }
     ensures others { LeavesOthers layout.now (D.hidden parts.old) (D.words parts.old) (D.words parts.new) (D.beside parts.old) (D.beside parts.new) }
     ensures settled { P.held pool.new ≡ 0 → is_contended result ≡ false }
     ensures refused { IsTrue (is_refusal_of result) → IsSame (D.words parts.old) (D.words parts.new) (D.beside parts.old) (D.beside parts.new) (D.begun parts.old) (D.begun parts.new) }
@@ -156,8 +161,8 @@ fn update_larval<D: Parts, P: Pool>(
     }
 }
 
-/// Updates the state in a slot.
-fn update_at<D: Parts, P: Pool>(
+/// Updates the state in a slot, which is the one that the request's id names and whose turn is held. Full or NoMemory where it is refused.
+pub fn state_update_at<D: Parts, P: Pool>(
     alloc: Global,
     layout: &Layout,
     parts: &mut D,
@@ -176,6 +181,8 @@ fn update_at<D: Parts, P: Pool>(
     ensures hidden { D.hidden parts.new ≡ D.hidden parts.old }
     ensures capacity { P.capacity pool.new ≡ P.capacity pool.old }
     ensures lasts { P.lasts pool.new ≡ P.lasts pool.old }
+    ensures given { is_refusal_of result ≡ false → SlotCame (P.gives pool.old) (Some slot) (listed_in layout.now.states (D.words parts.old)) (listed_in layout.now.states (D.words parts.new)) ⊎ (listed_in layout.now.states (D.words parts.new) ≡ listed_in layout.now.states (D.words parts.old)) }
+    ensures places { KeepsPlaces layout.now.states (D.beside parts.old).held (D.words parts.old) (D.words parts.new) }
     ensures others { LeavesOthers layout.now (D.hidden parts.old) (D.words parts.old) (D.words parts.new) (D.beside parts.old) (D.beside parts.new) }
     ensures settled { P.held pool.new ≡ 0 → is_contended result ≡ false }
     ensures refused { IsTrue (is_refusal_of result) → IsSame (D.words parts.old) (D.words parts.new) (D.beside parts.old) (D.beside parts.new) (D.begun parts.old) (D.begun parts.new) }
@@ -207,6 +214,8 @@ pub fn state_update<D: Parts, P: Pool>(
     ensures hidden { D.hidden parts.new ≡ D.hidden parts.old }
     ensures capacity { P.capacity pool.new ≡ P.capacity pool.old }
     ensures lasts { P.lasts pool.new ≡ P.lasts pool.old }
+    ensures given { is_refusal_of result ≡ false → SlotCame (P.gives pool.old) (named_in layout.now.states (D.words parts.old) (id_of spec.now)) (listed_in layout.now.states (D.words parts.old)) (listed_in layout.now.states (D.words parts.new)) ⊎ (listed_in layout.now.states (D.words parts.new) ≡ listed_in layout.now.states (D.words parts.old)) }
+    ensures places { KeepsPlaces layout.now.states (D.beside parts.old).held (D.words parts.old) (D.words parts.new) }
     ensures others { LeavesOthers layout.now (D.hidden parts.old) (D.words parts.old) (D.words parts.new) (D.beside parts.old) (D.beside parts.new) }
     ensures settled { P.held pool.new ≡ 0 → is_contended result ≡ false }
     ensures refused { IsTrue (is_refusal_of result) → IsSame (D.words parts.old) (D.words parts.new) (D.beside parts.old) (D.beside parts.new) (D.begun parts.old) (D.begun parts.new) }
@@ -216,6 +225,6 @@ pub fn state_update<D: Parts, P: Pool>(
     let id = id_of(spec);
     match found_here(layout, parts, &id) {
         None => Reply::NoState,
-        Some(slot) => update_at(alloc, layout, parts, pool, spec, slot),
+        Some(slot) => state_update_at(alloc, layout, parts, pool, spec, slot),
     }
 }

@@ -3,3 +3,4 @@ pub mod Ages
 pub mod Places
 pub mod Passed
 pub mod Quiet
+pub mod Enters

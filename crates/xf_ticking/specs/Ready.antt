@@ -1,5 +1,5 @@
 -- What a tick rests on, and what it leaves.
-use Rattle.std.specs.Prelude.{◌≡◌, ℕ, ◌<◌, ◌≤◌, true, List, length, slice_index}
+use Rattle.std.specs.Prelude.{◌≡◌, ℕ, ◌<◌, ◌≤◌, true, List, All, length, slice_index}
 use Rattle.xf_image.specs.Readings.{listed_in as policies_listed}
 use Rattle.xf_spd.specs.Slots.{PoolFits as PolicyPoolFits}
 use Rattle.xf_sad.specs.Slots.{PoolFits as StatePoolFits, listed_in as states_listed}
@@ -7,11 +7,15 @@ use Rattle.xf_rows.specs.declared.layout.Layout.{Layout}
 use Rattle.xf_rows.specs.Layouts.{Fits}
 use Rattle.xf_rows.specs.Values.{Beside}
 
--- All lie in so many words, behind those that are the owner's own, and the turn of each slot is held.
-pub record IsReady (layout : Layout) (size hidden : ℕ) (b : Beside) : Type 0 where
+-- the turn of each slot is held that a state has
+abbrev pub HoldsListed : Layout → List ℕ → Beside → Type 0
+HoldsListed layout words b = All (λ slot. b.held slot ≡ true) (states_listed layout.states words)
+
+-- All lie in so many words, behind those that are the owner's own, and the turn of each slot is held that a state has.
+pub record IsReady (layout : Layout) (size hidden : ℕ) (words : List ℕ) (b : Beside) : Type 0 where
   pub fits : Fits layout size
   pub behind : hidden ≤ layout.policies.base
-  pub turns : (slot : ℕ) → b.held slot ≡ true
+  pub turns : HoldsListed layout words b
 
 -- the pool fits the slots of the policies that are listed
 abbrev pub FitsPolicies : Layout → List ℕ → ℕ → ℕ → (ℕ → Type 0) → (ℕ → Type 0) → Type 0

@@ -11,6 +11,7 @@ pub(crate) fn time_here<D: Parts>(layout: &Layout, parts: &mut D) -> u64
     requires { Fits layout.now (D.size parts.old) }
     ensures size { D.size parts.new ≡ D.size parts.old }
     ensures begun { D.begun parts.new ≡ D.begun parts.old }
+    ensures rest { D.rest parts.new ≡ D.rest parts.old }
     ensures words { D.words parts.new ≡ D.words parts.old }
     ensures hidden { D.hidden parts.new ≡ D.hidden parts.old }
     ensures beside { D.beside parts.new ≡ D.beside parts.old }

@@ -18,6 +18,7 @@ pub(crate) fn first_slot<D: Parts>(layout: &Layout, parts: &mut D) -> Option<u32
     requires { Fits layout.now (D.size parts.old) }
     ensures size { D.size parts.new ≡ D.size parts.old }
     ensures begun { D.begun parts.new ≡ D.begun parts.old }
+    ensures rest { D.rest parts.new ≡ D.rest parts.old }
     ensures words { D.words parts.new ≡ D.words parts.old }
     ensures hidden { D.hidden parts.new ≡ D.hidden parts.old }
     ensures beside { D.beside parts.new ≡ D.beside parts.old }
@@ -36,6 +37,7 @@ pub(crate) fn next_slot<D: Parts>(layout: &Layout, parts: &mut D, slot: u32) -> 
     requires slot { slot < layout.now.states.slots }
     ensures size { D.size parts.new ≡ D.size parts.old }
     ensures begun { D.begun parts.new ≡ D.begun parts.old }
+    ensures rest { D.rest parts.new ≡ D.rest parts.old }
     ensures words { D.words parts.new ≡ D.words parts.old }
     ensures hidden { D.hidden parts.new ≡ D.hidden parts.old }
     ensures beside { D.beside parts.new ≡ D.beside parts.old }

@@ -4,6 +4,7 @@
 mod clock;
 mod cursor;
 mod due;
+mod entering;
 mod passing;
 mod policies;
 mod reports;
@@ -14,6 +15,7 @@ mod telling;
 mod ticking;
 mod walking;
 
+pub use entering::enter_all;
 pub use slots::AllParts;
 pub use telling::{state_event_count, state_events};
 pub use ticking::tick;

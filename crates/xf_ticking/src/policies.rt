@@ -1,8 +1,10 @@
 //! The policies' half of a tick, where the words have values beside them.
-ghost use Rattle.std.specs.Prelude.{◌≡◌, ℕ, ◌≤◌, ◌++◌, true, List, OnOk, filter_map};
+ghost use Rattle.std.specs.Prelude.{◌≡◌, ℕ, ◌≤◌, ◌++◌, true, List, OnOk, length, filter_map};
 ghost use Rattle.xf_types.specs.declared.policy.Policy.{Policy};
 ghost use Rattle.xf_types.specs.Machine.{Shown};
 ghost use Rattle.xf_types.specs.TickRules.{policy_event};
+ghost use Rattle.xf_cells.specs.Backs.{TakesBack};
+ghost use Rattle.xf_image.specs.Readings.{listed_in};
 ghost use Rattle.xf_inexact.specs.Whole.{SpdStands, whole_end};
 ghost use Rattle.xf_rows.specs.Layouts.{Fits};
 ghost use Rattle.xf_policies.specs.Standing.{Stood as PoliciesStood, LeavesOthers, AreLater};
@@ -22,6 +24,7 @@ pub(crate) fn policy_count_here<D: Parts>(layout: &Layout, parts: &mut D, now: u
     requires { Fits layout.now (D.size parts.old) }
     ensures size { D.size parts.new ≡ D.size parts.old }
     ensures begun { D.begun parts.new ≡ D.begun parts.old }
+    ensures rest { D.rest parts.new ≡ D.rest parts.old }
     ensures words { D.words parts.new ≡ D.words parts.old }
     ensures hidden { D.hidden parts.new ≡ D.hidden parts.old }
     ensures beside { D.beside parts.new ≡ D.beside parts.old }
@@ -45,6 +48,7 @@ pub(crate) fn policy_events_here<D: Parts>(
     requires counts { CountsPolicies layout.now (D.words parts.old) now count }
     ensures size { D.size parts.new ≡ D.size parts.old }
     ensures begun { D.begun parts.new ≡ D.begun parts.old }
+    ensures rest { D.rest parts.new ≡ D.rest parts.old }
     ensures words { D.words parts.new ≡ D.words parts.old }
     ensures hidden { D.hidden parts.new ≡ D.hidden parts.old }
     ensures beside { D.beside parts.new ≡ D.beside parts.old }
@@ -69,7 +73,7 @@ pub(crate) fn policies_later_here<D: AllParts, P: Pool>(
 )
     requires fits { Fits layout.now (D.size parts.old) }
     requires behind { D.Parts.hidden parts.old ≤ layout.now.policies.base }
-    requires lasts { P.lasts pool.old ≡ true }
+    requires back { TakesBack (P.lasts pool.old) P.taken P.takes }
     requires counts { CountsPolicies layout.now (D.words parts.old) now count }
     requires stood { PoliciesStood layout.now.policies (D.words parts.old) }
     requires pool { FitsPolicies layout.now (D.words parts.old) (P.capacity pool.old) (P.taken pool.old) (P.gives pool.old) (P.takes pool.old) }
@@ -81,7 +85,8 @@ pub(crate) fn policies_later_here<D: AllParts, P: Pool>(
     ensures held { P.held pool.new ≡ P.held pool.old }
     ensures others { LeavesOthers (D.Parts.hidden parts.old) layout.now.policies.base (whole_end layout.now.policies) (D.words parts.old) (D.words parts.new) }
     ensures later { (s : Shown) (es : List (ℕ × Policy)) → SpdStands layout.now.policies (D.words parts.old) s es → AreLater layout.now.policies (D.words parts.new) now s es }
-    ensures pool { FitsPolicies layout.now (D.words parts.new) (P.capacity pool.new) (P.taken pool.new) (P.gives pool.new) (P.takes pool.new) }
+    ensures out { P.taken pool.new ≡ length (listed_in layout.now.policies (D.words parts.new)) }
+    ensures pool { P.lasts pool.old ≡ true → FitsPolicies layout.now (D.words parts.new) (P.capacity pool.new) (P.taken pool.new) (P.gives pool.new) (P.takes pool.new) }
 {
     if count == 0 {
         return;

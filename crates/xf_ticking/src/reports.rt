@@ -1,10 +1,12 @@
 //! What a tick reports: policies first, then states, each in the order of its list.
-ghost use Rattle.std.specs.Prelude.{◌≡◌, ℕ, true, IfOk, length};
+ghost use Rattle.std.specs.Prelude.{◌≡◌, IfOk, length};
 ghost use Rattle.xf_types.specs.Machine.{Machine};
 ghost use Rattle.xf_types.specs.TickRules.{events_at};
 ghost use Rattle.xf_rows.specs.Layouts.{Fits};
 ghost use Rattle.xf_rows.specs.Stands.{Stands};
 ghost use Rattle.xf_ticking.specs.Counted.{CountsPolicies, CountsStates};
+ghost use Rattle.xf_ticking.specs.Ready.{HoldsListed};
+ghost use Rattle.xf_ticking.specs.Walks.{StatesStood};
 
 use crate::policies::{policy_count_here, policy_events_here};
 use crate::states::state_events_here;
@@ -26,9 +28,11 @@ pub(crate) struct EventCount {
 pub(crate) fn event_count<D: Parts>(layout: &Layout, parts: &mut D, now: u64) -> EventCount
     requires fits { Fits layout.now (D.size parts.old) }
     requires count { length (D.beside parts.old).values ≡ layout.now.states.slots }
-    requires turns { (slot : ℕ) → (D.beside parts.old).held slot ≡ true }
+    requires stood { StatesStood layout.now.states (D.words parts.old) }
+    requires turns { HoldsListed layout.now (D.words parts.old) (D.beside parts.old) }
     ensures size { D.size parts.new ≡ D.size parts.old }
     ensures begun { D.begun parts.new ≡ D.begun parts.old }
+    ensures rest { D.rest parts.new ≡ D.rest parts.old }
     ensures words { D.words parts.new ≡ D.words parts.old }
     ensures hidden { D.hidden parts.new ≡ D.hidden parts.old }
     ensures beside { D.beside parts.new ≡ D.beside parts.old }
@@ -50,11 +54,13 @@ pub(crate) fn events_at<D: Parts>(
 ) -> Result<Vec<Event>, NoMemory>
     requires fits { Fits layout.now (D.size parts.old) }
     requires count { length (D.beside parts.old).values ≡ layout.now.states.slots }
-    requires turns { (slot : ℕ) → (D.beside parts.old).held slot ≡ true }
+    requires stood { StatesStood layout.now.states (D.words parts.old) }
+    requires turns { HoldsListed layout.now (D.words parts.old) (D.beside parts.old) }
     requires policies { CountsPolicies layout.now (D.words parts.old) now count.policies }
     requires states { CountsStates layout.now (D.words parts.old) (D.beside parts.old) now count.states }
     ensures size { D.size parts.new ≡ D.size parts.old }
     ensures begun { D.begun parts.new ≡ D.begun parts.old }
+    ensures rest { D.rest parts.new ≡ D.rest parts.old }
     ensures words { D.words parts.new ≡ D.words parts.old }
     ensures hidden { D.hidden parts.new ≡ D.hidden parts.old }
     ensures beside { D.beside parts.new ≡ D.beside parts.old }

@@ -36,6 +36,7 @@ fn remove<D: Parts, P: Pool>(layout: &Layout, parts: &mut D, pool: &mut P, slot:
     ensures held { P.held pool.new ≡ P.held pool.old }
     ensures others { LeavesOthers (D.hidden parts.old) layout.now.states.base (end_of layout.now.states) (D.words parts.old) (D.words parts.new) }
     ensures stands { (s : Shown) (front back : List (ℕ × Sa)) (r : Sa) → StatesStand layout.now.states (D.words parts.old) s (front ++ ((slot, r) ∷ back)) → StatesStand layout.now.states (D.words parts.new) (with_states s (records_in (front ++ back))) (front ++ back) }
+    ensures out { P.taken pool.old ≡ length (listed_in layout.now.states (D.words parts.old)) → P.taken pool.new ≡ length (listed_in layout.now.states (D.words parts.new)) }
     ensures pool { P.lasts pool.old ≡ true → FitsStates layout.now (D.words parts.old) (P.capacity pool.old) (P.taken pool.old) (P.gives pool.old) (P.takes pool.old) → FitsStates layout.now (D.words parts.new) (P.capacity pool.new) (P.taken pool.new) (P.gives pool.new) (P.takes pool.new) }
 {
     (Sad {
@@ -85,6 +86,7 @@ pub(crate) fn settle<D: Parts, P: Pool>(
     ensures held { P.held pool.new ≡ P.held pool.old }
     ensures others { LeavesOthers (D.hidden parts.old) layout.now.states.base (end_of layout.now.states) (D.words parts.old) (D.words parts.new) }
     ensures stands { (s : Shown) (front back : List (ℕ × Sa)) (r : Sa) → StatesStand layout.now.states (D.words parts.old) s (front ++ ((slot, r) ∷ back)) → StatesStand layout.now.states (D.words parts.new) (with_states s (records_in (front ++ (entry_by due (slot, r) ++ back)))) (front ++ (entry_by due (slot, r) ++ back)) }
+    ensures out { P.taken pool.old ≡ length (listed_in layout.now.states (D.words parts.old)) → P.taken pool.new ≡ length (listed_in layout.now.states (D.words parts.new)) }
     ensures pool { P.lasts pool.old ≡ true → FitsStates layout.now (D.words parts.old) (P.capacity pool.old) (P.taken pool.old) (P.gives pool.old) (P.takes pool.old) → FitsStates layout.now (D.words parts.new) (P.capacity pool.new) (P.taken pool.new) (P.gives pool.new) (P.takes pool.new) }
 {
     match due {

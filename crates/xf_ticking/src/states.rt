@@ -3,13 +3,15 @@ ghost use Rattle.std.specs.Prelude.{◌≡◌, ℕ, ◌≤◌, ◌++◌, true, L
 ghost use Rattle.xf_types.specs.declared.state.Sa.{Sa};
 ghost use Rattle.xf_types.specs.Machine.{Machine, Shown};
 ghost use Rattle.xf_types.specs.TickRules.{state_event, with_own};
+ghost use Rattle.xf_cells.specs.Backs.{TakesBack};
 ghost use Rattle.xf_sadidx.specs.Layout.{end_of};
 ghost use Rattle.xf_sadimage.specs.States.{StatesStand};
+ghost use Rattle.xf_sad.specs.Slots.{listed_in};
 ghost use Rattle.xf_rows.specs.Layouts.{Fits};
 ghost use Rattle.xf_rows.specs.Stands.{Stands};
 ghost use Rattle.xf_policies.specs.Standing.{LeavesOthers};
 ghost use Rattle.xf_ticking.specs.Counted.{CountsStates};
-ghost use Rattle.xf_ticking.specs.Ready.{FitsStates};
+ghost use Rattle.xf_ticking.specs.Ready.{FitsStates, HoldsListed};
 ghost use Rattle.xf_ticking.specs.Walks.{StatesStood, StandsLeft};
 
 use crate::telling::state_events;
@@ -29,10 +31,12 @@ pub(crate) fn state_events_here<D: Parts>(
 ) -> Result<(), NoMemory>
     requires fits { Fits layout.now (D.size parts.old) }
     requires count { length (D.beside parts.old).values ≡ layout.now.states.slots }
-    requires turns { (slot : ℕ) → (D.beside parts.old).held slot ≡ true }
+    requires stood { StatesStood layout.now.states (D.words parts.old) }
+    requires turns { HoldsListed layout.now (D.words parts.old) (D.beside parts.old) }
     requires counts { CountsStates layout.now (D.words parts.old) (D.beside parts.old) now count }
     ensures size { D.size parts.new ≡ D.size parts.old }
     ensures begun { D.begun parts.new ≡ D.begun parts.old }
+    ensures rest { D.rest parts.new ≡ D.rest parts.old }
     ensures words { D.words parts.new ≡ D.words parts.old }
     ensures hidden { D.hidden parts.new ≡ D.hidden parts.old }
     ensures beside { D.beside parts.new ≡ D.beside parts.old }
@@ -55,9 +59,9 @@ pub(crate) fn states_later_here<D: Parts, P: Pool>(
     requires fits { Fits layout.now (D.size parts.old) }
     requires behind { D.hidden parts.old ≤ layout.now.policies.base }
     requires count { length (D.beside parts.old).values ≡ layout.now.states.slots }
-    requires turns { (slot : ℕ) → (D.beside parts.old).held slot ≡ true }
+    requires turns { HoldsListed layout.now (D.words parts.old) (D.beside parts.old) }
     requires counts { CountsStates layout.now (D.words parts.old) (D.beside parts.old) now count }
-    requires lasts { P.lasts pool.old ≡ true }
+    requires back { TakesBack (P.lasts pool.old) P.taken P.takes }
     requires stood { StatesStood layout.now.states (D.words parts.old) }
     requires pool { FitsStates layout.now (D.words parts.old) (P.capacity pool.old) (P.taken pool.old) (P.gives pool.old) (P.takes pool.old) }
     ensures size { D.size parts.new ≡ D.size parts.old }
@@ -68,7 +72,8 @@ pub(crate) fn states_later_here<D: Parts, P: Pool>(
     ensures held { P.held pool.new ≡ P.held pool.old }
     ensures others { LeavesOthers (D.hidden parts.old) layout.now.states.base (end_of layout.now.states) (D.words parts.old) (D.words parts.new) }
     ensures later { (s : Shown) (es : List (ℕ × Sa)) → StatesStand layout.now.states (D.words parts.old) s es → StandsLeft layout.now.states (D.words parts.new) now (D.beside parts.old) s es }
-    ensures pool { FitsStates layout.now (D.words parts.new) (P.capacity pool.new) (P.taken pool.new) (P.gives pool.new) (P.takes pool.new) }
+    ensures out { P.taken pool.new ≡ length (listed_in layout.now.states (D.words parts.new)) }
+    ensures pool { P.lasts pool.old ≡ true → FitsStates layout.now (D.words parts.new) (P.capacity pool.new) (P.taken pool.new) (P.gives pool.new) (P.takes pool.new) }
 {
     if count == 0 {
         return;

@@ -1,10 +1,12 @@
 //! What the values of the listed states report at a time, in the order of the list.
-ghost use Rattle.std.specs.Prelude.{◌≡◌, ℕ, ◌≤◌, ◌++◌, true, OnOk, length, filter_map, option_to_list};
+ghost use Rattle.std.specs.Prelude.{◌≡◌, ◌≤◌, ◌++◌, OnOk, length, filter_map, option_to_list};
 ghost use Rattle.xf_types.specs.Machine.{Machine};
 ghost use Rattle.xf_types.specs.TickRules.{state_event, with_own};
 ghost use Rattle.xf_rows.specs.Layouts.{Fits};
 ghost use Rattle.xf_rows.specs.Stands.{Stands};
 ghost use Rattle.xf_ticking.specs.Counted.{CountsStates};
+ghost use Rattle.xf_ticking.specs.Ready.{HoldsListed};
+ghost use Rattle.xf_ticking.specs.Walks.{StatesStood};
 
 use crate::cursor::{first_slot, next_slot};
 use xf_cells::{Cells, Load};
@@ -35,13 +37,15 @@ fn push_some(events: &mut Vec<Event>, event: Option<Event>) -> Result<(), NoMemo
     Ok(())
 }
 
-/// How many events of states there are at a time, in seconds. All turns are held.
+/// How many events of states there are at a time, in seconds. The turns of the listed slots are held.
 pub fn state_event_count<D: Parts>(layout: &Layout, parts: &mut D, now: u64) -> u32
     requires fits { Fits layout.now (D.size parts.old) }
     requires count { length (D.beside parts.old).values ≡ layout.now.states.slots }
-    requires turns { (slot : ℕ) → (D.beside parts.old).held slot ≡ true }
+    requires stood { StatesStood layout.now.states (D.words parts.old) }
+    requires turns { HoldsListed layout.now (D.words parts.old) (D.beside parts.old) }
     ensures size { D.size parts.new ≡ D.size parts.old }
     ensures begun { D.begun parts.new ≡ D.begun parts.old }
+    ensures rest { D.rest parts.new ≡ D.rest parts.old }
     ensures words { D.words parts.new ≡ D.words parts.old }
     ensures hidden { D.hidden parts.new ≡ D.hidden parts.old }
     ensures beside { D.beside parts.new ≡ D.beside parts.old }
@@ -65,7 +69,7 @@ pub fn state_event_count<D: Parts>(layout: &Layout, parts: &mut D, now: u64) -> 
 }
 
 /// Puts the events of states at a time, in seconds, behind those so far, in the order of the list. Where memory runs out some of them may
-/// stand there. All turns are held.
+/// stand there. The turns of the listed slots are held.
 pub fn state_events<D: Parts>(
     layout: &Layout,
     parts: &mut D,
@@ -74,9 +78,11 @@ pub fn state_events<D: Parts>(
 ) -> Result<(), NoMemory>
     requires fits { Fits layout.now (D.size parts.old) }
     requires count { length (D.beside parts.old).values ≡ layout.now.states.slots }
-    requires turns { (slot : ℕ) → (D.beside parts.old).held slot ≡ true }
+    requires stood { StatesStood layout.now.states (D.words parts.old) }
+    requires turns { HoldsListed layout.now (D.words parts.old) (D.beside parts.old) }
     ensures size { D.size parts.new ≡ D.size parts.old }
     ensures begun { D.begun parts.new ≡ D.begun parts.old }
+    ensures rest { D.rest parts.new ≡ D.rest parts.old }
     ensures words { D.words parts.new ≡ D.words parts.old }
     ensures hidden { D.hidden parts.new ≡ D.hidden parts.old }
     ensures beside { D.beside parts.new ≡ D.beside parts.old }

@@ -2,11 +2,13 @@
 ghost use Rattle.std.specs.Prelude.{◌≡◌, ℕ, ◌≤◌, true, List, length};
 ghost use Rattle.xf_types.specs.declared.state.Sa.{Sa};
 ghost use Rattle.xf_types.specs.Machine.{Shown};
+ghost use Rattle.xf_cells.specs.Backs.{TakesBack};
 ghost use Rattle.xf_sadidx.specs.Layout.{end_of};
 ghost use Rattle.xf_sadimage.specs.States.{StatesStand};
+ghost use Rattle.xf_sad.specs.Slots.{listed_in};
 ghost use Rattle.xf_rows.specs.Layouts.{Fits};
 ghost use Rattle.xf_policies.specs.Standing.{LeavesOthers};
-ghost use Rattle.xf_ticking.specs.Ready.{FitsStates};
+ghost use Rattle.xf_ticking.specs.Ready.{FitsStates, HoldsListed};
 ghost use Rattle.xf_ticking.specs.Walks.{StatesStood, StandsLeft};
 
 use crate::cursor::{first_slot, next_slot};
@@ -17,14 +19,14 @@ use xf_parts::Parts;
 use xf_rows::Layout;
 
 /// Removes the states that a time ends, and marks those as dying that it newly warns of, as their values tell. The time is in seconds.
-/// No value changes, and the clock's word is the caller's. The pool has to last, and all turns are held. The next slot is asked for
-/// before a state leaves.
+/// No value changes, and the clock's word is the caller's. The pool takes back one slot after the other, and the turns of the listed
+/// slots are held. The next slot is asked for before a state leaves.
 pub fn states_later<D: Parts, P: Pool>(layout: &Layout, parts: &mut D, pool: &mut P, now: u64)
     requires fits { Fits layout.now (D.size parts.old) }
     requires behind { D.hidden parts.old ≤ layout.now.policies.base }
     requires count { length (D.beside parts.old).values ≡ layout.now.states.slots }
-    requires turns { (slot : ℕ) → (D.beside parts.old).held slot ≡ true }
-    requires lasts { P.lasts pool.old ≡ true }
+    requires turns { HoldsListed layout.now (D.words parts.old) (D.beside parts.old) }
+    requires back { TakesBack (P.lasts pool.old) P.taken P.takes }
     requires stood { StatesStood layout.now.states (D.words parts.old) }
     requires pool { FitsStates layout.now (D.words parts.old) (P.capacity pool.old) (P.taken pool.old) (P.gives pool.old) (P.takes pool.old) }
     ensures size { D.size parts.new ≡ D.size parts.old }
@@ -35,7 +37,8 @@ pub fn states_later<D: Parts, P: Pool>(layout: &Layout, parts: &mut D, pool: &mu
     ensures held { P.held pool.new ≡ P.held pool.old }
     ensures others { LeavesOthers (D.hidden parts.old) layout.now.states.base (end_of layout.now.states) (D.words parts.old) (D.words parts.new) }
     ensures later { (s : Shown) (es : List (ℕ × Sa)) → StatesStand layout.now.states (D.words parts.old) s es → StandsLeft layout.now.states (D.words parts.new) now (D.beside parts.old) s es }
-    ensures pool { FitsStates layout.now (D.words parts.new) (P.capacity pool.new) (P.taken pool.new) (P.gives pool.new) (P.takes pool.new) }
+    ensures out { P.taken pool.new ≡ length (listed_in layout.now.states (D.words parts.new)) }
+    ensures pool { P.lasts pool.old ≡ true → FitsStates layout.now (D.words parts.new) (P.capacity pool.new) (P.taken pool.new) (P.gives pool.new) (P.takes pool.new) }
 {
     let mut at = first_slot(layout, parts);
     let mut left = layout.states.slots;

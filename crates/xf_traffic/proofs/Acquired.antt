@@ -82,6 +82,22 @@ acquires_new s p t src dst sh leaves new e =
     room_tells s (record s { next_seq = next_in last_seq (free_seq s) }) (larval_new s p t src dst) (is_full s) sh leaves new e in
     record { new_is = tells.new_is; reply_is = tells.reply_is }
 
+leave_shown : (s sh : Shown) (l leaves : Sa → Bool) (x new : NewState) → LeaveThen s l (Some x) ≡ LeaveThen sh leaves (Some new) → sh ≡ s
+leave_shown s sh l leaves x new e = cc
+
+room_shown : (s t : Shown) (x : NewState) (b : Bool) (sh : Shown) (leaves : Sa → Bool) (new : NewState)
+    → (by_room s t x b).change ≡ LeaveThen sh leaves (Some new) → sh ≡ t
+unfolding by_room
+room_shown s t x true sh leaves new e = absurd (stays_not (reply.Full (length s.states) 0) sh leaves new e)
+room_shown s t x false sh leaves new e = leave_shown t sh is_none leaves x new e
+
+-- it has the next state id
+pub acquires_sid : (s : Shown) (p : Policy) (t : Template) (src dst : Addr) (sh : Shown) (leaves : Sa → Bool) (new : NewState)
+    → (acquired s p t src dst).change ≡ LeaveThen sh leaves (Some new) → sh.next_sid ≡ s.next_sid
+unfolding by_room
+acquires_sid s p t src dst sh leaves new e =
+    ap (λ (u : Shown). u.next_sid) (room_shown s (record s { next_seq = next_in last_seq (free_seq s) }) (larval_new s p t src dst) (is_full s) sh leaves new e)
+
 -- ---- the words
 
 -- the record that stands in its slot

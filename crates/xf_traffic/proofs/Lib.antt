@@ -4,3 +4,4 @@ pub mod Resolved
 pub mod Listed
 pub mod Followed
 pub mod Acquired
+mod Placed

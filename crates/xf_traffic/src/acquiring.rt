@@ -12,6 +12,7 @@ ghost use Rattle.xf_sadidx.specs.Layout.{end_of, record_at};
 ghost use Rattle.xf_sadlist.specs.Listed.{next_sid_in};
 ghost use Rattle.xf_sad.specs.Changes.{Comes};
 ghost use Rattle.xf_sad.specs.Replies.{FaultIs, IsRoomFault, fault_reply};
+ghost use Rattle.xf_sad.specs.Places.{KeepsPlaces, SlotCame};
 ghost use Rattle.xf_sad.specs.Slots.{PoolFits, listed_in};
 ghost use Rattle.xf_rows.specs.Layouts.{Fits};
 ghost use Rattle.xf_rows.specs.Replies.{Answers};
@@ -155,6 +156,8 @@ pub fn acquire<D: Parts, P: Pool>(
     ensures hidden { D.hidden parts.new ≡ D.hidden parts.old }
     ensures capacity { P.capacity pool.new ≡ P.capacity pool.old }
     ensures lasts { P.lasts pool.new ≡ P.lasts pool.old }
+    ensures given { is_moving result ≡ true → SlotCame (P.gives pool.old) None (listed_in layout.now.states (D.words parts.old)) (listed_in layout.now.states (D.words parts.new)) }
+    ensures places { KeepsPlaces layout.now.states (D.beside parts.old).held (D.words parts.old) (D.words parts.new) }
     ensures others { LeavesOthers layout.now (D.hidden parts.old) (D.words parts.old) (D.words parts.new) (D.beside parts.old) (D.beside parts.new) }
     ensures settled { P.held pool.new ≡ 0 → is_contended result ≡ false }
     ensures idle { is_moving result ≡ false → IsSame (D.words parts.old) (D.words parts.new) (D.beside parts.old) (D.beside parts.new) (D.begun parts.old) (D.begun parts.new) }

@@ -1,5 +1,5 @@
 //! Flows.
-ghost use Rattle.std.specs.Prelude.{◌≡◌, ℕ, ◌<◌, ◌^◌, Bool, true, false, List};
+ghost use Rattle.std.specs.Prelude.{◌≡◌, ℕ, ◌<◌, ◌^◌, Bool, true, false, List, ◌⊎◌, None};
 ghost use Rattle.xf_types.specs.declared.call.Call.TheVariants as call;
 ghost use Rattle.xf_types.specs.declared.policy.Policy.{Policy};
 ghost use Rattle.xf_types.specs.declared.state.Sa.{Sa};
@@ -11,6 +11,7 @@ ghost use Rattle.xf_chain.specs.Lists.{Within};
 ghost use Rattle.xf_inexact.specs.Whole.{SpdStands};
 ghost use Rattle.xf_sadimage.specs.States.{StatesStand};
 ghost use Rattle.xf_sadlist.specs.Listed.{next_sid_in};
+ghost use Rattle.xf_sad.specs.Places.{KeepsPlaces, SlotCame};
 ghost use Rattle.xf_sad.specs.Slots.{PoolFits, listed_in};
 ghost use Rattle.xf_rows.specs.Layouts.{Fits};
 ghost use Rattle.xf_rows.specs.Replies.{Answers};
@@ -67,6 +68,8 @@ pub fn flow<D: Parts, P: Pool>(
     ensures hidden { D.hidden parts.new ≡ D.hidden parts.old }
     ensures capacity { P.capacity pool.new ≡ P.capacity pool.old }
     ensures lasts { P.lasts pool.new ≡ P.lasts pool.old }
+    ensures given { SlotCame (P.gives pool.old) None (listed_in layout.now.states (D.words parts.old)) (listed_in layout.now.states (D.words parts.new)) ⊎ (listed_in layout.now.states (D.words parts.new) ≡ listed_in layout.now.states (D.words parts.old)) }
+    ensures places { KeepsPlaces layout.now.states (D.beside parts.old).held (D.words parts.old) (D.words parts.new) }
     ensures others { LeavesOthers layout.now (D.hidden parts.old) (D.words parts.old) (D.words parts.new) (D.beside parts.old) (D.beside parts.new) }
     ensures settled { P.held pool.new ≡ 0 → is_contended result.reply ≡ false }
     ensures idle { is_moving result.reply ≡ false → IsSame (D.words parts.old) (D.words parts.new) (D.beside parts.old) (D.beside parts.new) (D.begun parts.old) (D.begun parts.new) }

@@ -51,6 +51,8 @@ fn leave<D: Parts, P: Pool>(layout: &Layout, parts: &mut D, pool: &mut P, slot: 
     ensures capacity { P.capacity pool.new ≡ P.capacity pool.old }
     ensures lasts { P.lasts pool.new ≡ P.lasts pool.old }
     ensures held { P.held pool.new ≡ P.held pool.old }
+    ensures returned { P.returned pool.new slot }
+    ensures out { P.taken pool.old ≡ length (listed_in layout.now.states (D.words parts.old)) → P.taken pool.new ≡ length (listed_in layout.now.states (D.words parts.new)) }
     ensures follows { (soft : Bool) → Follows layout.now.states (D.hidden parts.old) slot true soft (D.words parts.old) (D.words parts.new) }
     ensures pool { P.lasts pool.old ≡ true → PoolFits (P.capacity pool.old) (P.taken pool.old) (P.gives pool.old) (P.takes pool.old) layout.now.states.slots (listed_in layout.now.states (D.words parts.old)) → PoolFits (P.capacity pool.new) (P.taken pool.new) (P.gives pool.new) (P.takes pool.new) layout.now.states.slots (listed_in layout.now.states (D.words parts.new)) }
 {
@@ -100,6 +102,8 @@ pub(crate) fn follow<D: Parts, P: Pool>(
     ensures capacity { P.capacity pool.new ≡ P.capacity pool.old }
     ensures lasts { P.lasts pool.new ≡ P.lasts pool.old }
     ensures held { P.held pool.new ≡ P.held pool.old }
+    ensures returned { says_ended reply.now ≡ true → P.returned pool.new slot }
+    ensures out { P.taken pool.old ≡ length (listed_in layout.now.states (D.words parts.old)) → P.taken pool.new ≡ length (listed_in layout.now.states (D.words parts.new)) }
     ensures follows { Follows layout.now.states (D.hidden parts.old) slot (says_ended reply.now) (says_soft reply.now) (D.words parts.old) (D.words parts.new) }
     ensures idle { says_ended reply.now ≡ false → says_soft reply.now ≡ false → IsIdle (D.words parts.old) (D.words parts.new) (D.begun parts.old) (D.begun parts.new) }
     ensures pool { P.lasts pool.old ≡ true → PoolFits (P.capacity pool.old) (P.taken pool.old) (P.gives pool.old) (P.takes pool.old) layout.now.states.slots (listed_in layout.now.states (D.words parts.old)) → PoolFits (P.capacity pool.new) (P.taken pool.new) (P.gives pool.new) (P.takes pool.new) layout.now.states.slots (listed_in layout.now.states (D.words parts.new)) }

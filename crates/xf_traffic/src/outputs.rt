@@ -1,11 +1,12 @@
 //! Outputs of states.
-ghost use Rattle.std.specs.Prelude.{◌≡◌, ℕ, ◌<◌, ◌≤◌, Bool, true, false, Some};
+ghost use Rattle.std.specs.Prelude.{◌≡◌, ℕ, ◌<◌, ◌≤◌, Bool, true, false, Some, length, if◌then◌else◌};
 ghost use Rattle.xf_types.specs.declared.call.Call.TheVariants as call;
 ghost use Rattle.xf_types.specs.History.{is_contended};
 ghost use Rattle.xf_types.specs.Machine.{Machine};
 ghost use Rattle.xf_types.specs.Moves.{says_soft};
 ghost use Rattle.xf_types.specs.StateList.{has_sid};
 ghost use Rattle.xf_chain.specs.Chains.{Below};
+ghost use Rattle.xf_sad.specs.Places.{KeepsPlaces, slots_but};
 ghost use Rattle.xf_sad.specs.Slots.{PoolFits, listed_in};
 ghost use Rattle.xf_rows.specs.Fates.{says_ended};
 ghost use Rattle.xf_rows.specs.Layouts.{Fits};
@@ -45,6 +46,10 @@ pub fn output_held<D: Parts, P: Pool>(
     ensures capacity { P.capacity pool.new ≡ P.capacity pool.old }
     ensures lasts { P.lasts pool.new ≡ P.lasts pool.old }
     ensures waiting { P.held pool.new ≡ P.held pool.old }
+    ensures returned { says_ended result ≡ true → P.returned pool.new slot }
+    ensures out { P.taken pool.new ≡ length (listed_in layout.now.states (D.words parts.new)) }
+    ensures list { listed_in layout.now.states (D.words parts.new) ≡ (if says_ended result then slots_but (Some slot) (listed_in layout.now.states (D.words parts.old)) else listed_in layout.now.states (D.words parts.old)) }
+    ensures places { KeepsPlaces layout.now.states (D.beside parts.old).held (D.words parts.old) (D.words parts.new) }
     ensures others { LeavesOthers layout.now (D.hidden parts.old) (D.words parts.old) (D.words parts.new) (D.beside parts.old) (D.beside parts.new) }
     ensures settled { is_contended result ≡ false }
     ensures idle { says_ended result ≡ false → says_soft result ≡ false → IsIdle (D.words parts.old) (D.words parts.new) (D.begun parts.old) (D.begun parts.new) }
@@ -80,6 +85,8 @@ pub fn output<D: Parts, P: Pool>(
     ensures capacity { P.capacity pool.new ≡ P.capacity pool.old }
     ensures lasts { P.lasts pool.new ≡ P.lasts pool.old }
     ensures waiting { P.held pool.new ≡ P.held pool.old }
+    ensures out { P.taken pool.new ≡ length (listed_in layout.now.states (D.words parts.new)) }
+    ensures places { KeepsPlaces layout.now.states (D.beside parts.old).held (D.words parts.old) (D.words parts.new) }
     ensures others { LeavesOthers layout.now (D.hidden parts.old) (D.words parts.old) (D.words parts.new) (D.beside parts.old) (D.beside parts.new) }
     ensures settled { is_contended result ≡ false }
     ensures idle { says_ended result ≡ false → says_soft result ≡ false → IsIdle (D.words parts.old) (D.words parts.new) (D.begun parts.old) (D.begun parts.new) }

@@ -1,11 +1,12 @@
 //! Packets that come in.
-ghost use Rattle.std.specs.Prelude.{◌≡◌, ℕ, ◌<◌, ◌≤◌, Bool, true, false, Some};
+ghost use Rattle.std.specs.Prelude.{◌≡◌, ℕ, ◌<◌, ◌≤◌, Bool, true, false, Some, length, if◌then◌else◌};
 ghost use Rattle.xf_types.specs.declared.call.Call.TheVariants as call;
 ghost use Rattle.xf_types.specs.History.{is_contended};
 ghost use Rattle.xf_types.specs.Machine.{Machine};
 ghost use Rattle.xf_types.specs.Moves.{says_soft};
 ghost use Rattle.xf_types.specs.StateList.{has_id};
 ghost use Rattle.xf_types.specs.TrafficRules.{id_of_packet};
+ghost use Rattle.xf_sad.specs.Places.{KeepsPlaces, slots_but};
 ghost use Rattle.xf_sad.specs.Slots.{PoolFits, listed_in};
 ghost use Rattle.xf_rows.specs.Fates.{says_ended};
 ghost use Rattle.xf_rows.specs.Layouts.{Fits};
@@ -43,6 +44,10 @@ pub fn packet_held<D: Parts, P: Pool>(
     ensures capacity { P.capacity pool.new ≡ P.capacity pool.old }
     ensures lasts { P.lasts pool.new ≡ P.lasts pool.old }
     ensures waiting { P.held pool.new ≡ P.held pool.old }
+    ensures returned { says_ended result ≡ true → P.returned pool.new slot }
+    ensures out { P.taken pool.new ≡ length (listed_in layout.now.states (D.words parts.new)) }
+    ensures list { listed_in layout.now.states (D.words parts.new) ≡ (if says_ended result then slots_but (Some slot) (listed_in layout.now.states (D.words parts.old)) else listed_in layout.now.states (D.words parts.old)) }
+    ensures places { KeepsPlaces layout.now.states (D.beside parts.old).held (D.words parts.old) (D.words parts.new) }
     ensures others { LeavesOthers layout.now (D.hidden parts.old) (D.words parts.old) (D.words parts.new) (D.beside parts.old) (D.beside parts.new) }
     ensures settled { is_contended result ≡ false }
     ensures idle { says_ended result ≡ false → says_soft result ≡ false → IsIdle (D.words parts.old) (D.words parts.new) (D.begun parts.old) (D.begun parts.new) }
@@ -75,6 +80,8 @@ pub fn packet<D: Parts, P: Pool>(
     ensures capacity { P.capacity pool.new ≡ P.capacity pool.old }
     ensures lasts { P.lasts pool.new ≡ P.lasts pool.old }
     ensures waiting { P.held pool.new ≡ P.held pool.old }
+    ensures out { P.taken pool.new ≡ length (listed_in layout.now.states (D.words parts.new)) }
+    ensures places { KeepsPlaces layout.now.states (D.beside parts.old).held (D.words parts.old) (D.words parts.new) }
     ensures others { LeavesOthers layout.now (D.hidden parts.old) (D.words parts.old) (D.words parts.new) (D.beside parts.old) (D.beside parts.new) }
     ensures settled { is_contended result ≡ false }
     ensures idle { says_ended result ≡ false → says_soft result ≡ false → IsIdle (D.words parts.old) (D.words parts.new) (D.begun parts.old) (D.begun parts.new) }

@@ -1,26 +1,42 @@
-use Rattle.std.proofs.Common.{rules, ◌≡◌, ℕ, suc, ◌<◌, List, length, ◌+◌, slice_set, ap, ◌∙◌, arith}
-use Rattle.xf_local.specs.View.{LocalView, aged}
-use Rattle.xf_rows.specs.Values.{Beside, at, value_put}
-use Rattle.xf_rows.specs.Ticks.{aged_below}
-use Rattle.xf_parts.proofs.AgeLemmas.{next_is, step_is}
+use Rattle.std.proofs.Common.{refl, ◌∙◌, arith}
+use Rattle.xf_parts.proofs.AgeLemmas.{aging_begins, aging_goes, aging_ends}
 use Rattle.xf_parts.proofs.aging.age_all.Goals as goal
+
+pub slots-init : goal.slots-init
+slots-init g c = record {
+  size = refl;
+  begun = refl;
+  words = refl;
+  hidden = refl;
+  within = omega arith;
+  aged = aging_begins c.args.now (g.P.Parts.beside c.args.parts.now);
+}
+
+pub age_if_held-requires : goal.age_if_held-requires
+age_if_held-requires g c =
+    let k = c.slots.invariant.aged in
+    let all = c.requires in
+    let t = c.slots-test.true in
+    let count = k.count in
+    omega (arith, t, all, count)
 
 pub slots-preserved : goal.slots-preserved
 slots-preserved g c =
-    let b : Beside = g.P.Parts.beside c.args.parts.now in
-    let k : ℕ = c.slots.slot in
-    let n : c.args.count ≡ length b.values = c.requires.count in
-    let t : k < c.args.count = c.slots-test.true in
-    let w : k < length b.values = omega (arith, n, t) in
-    let e : suc k ≡ k + 1 = omega arith in
+    let k = c.slots.invariant in
+    let t = c.slots-test.true in
+    let all = c.requires in
     record {
-      size = search rules;
-      begun = search rules;
-      words = search rules;
-      hidden = search rules;
+      size = c.age_if_held.ensures.size ∙ k.size;
+      begun = c.age_if_held.ensures.begun ∙ k.begun;
+      words = c.age_if_held.ensures.words ∙ k.words;
+      hidden = c.age_if_held.ensures.hidden ∙ k.hidden;
       within = omega (arith, t);
-      beside = c.age.ensures.beside ∙ ap (λ (x : Beside). value_put x k (aged c.args.now (at x k))) c.slots.invariant.beside
-          ∙ ap (λ (vs : List LocalView). record { held = b.held; values = vs })
-          (ap (λ (v : LocalView). slice_set (aged_below c.args.now k b.values) k (aged c.args.now v)) (next_is c.args.now b.values k w)
-          ∙ step_is c.args.now b.values k w ∙ ap (λ (j : ℕ). aged_below c.args.now j b.values) e);
+      aged = aging_goes c.args.now c.slots.slot (g.P.Parts.beside c.args.parts.now) (g.P.Parts.beside c.slots.parts) (g.P.Parts.beside c.age_if_held.new.parts)
+          (omega (arith, t, all)) c.age_if_held.ensures.beside k.aged;
     }
+
+pub returns-clause-beside : goal.returns-clause-beside
+returns-clause-beside g c =
+    let f = c.slots-test.false in
+    let all = c.requires in
+    aging_ends c.args.now c.slots.slot (g.P.Parts.beside c.args.parts.now) (g.P.Parts.beside c.slots.parts) (omega (arith, f, all)) c.slots.invariant.aged

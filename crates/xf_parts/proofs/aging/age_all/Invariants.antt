@@ -1,5 +1,5 @@
 use Rattle.std.proofs.Common.{◌-◌, ◌≡◌, ◌≤◌}
-use Rattle.xf_rows.specs.Ticks.{aged_below}
+use Rattle.xf_parts.proofs.AgeLemmas.{AgedBelow}
 use Rattle.xf_parts.proofs.aging.age_all.Given as goal
 
 abbrev pub invariant-slots : goal.invariant-slots
@@ -9,7 +9,7 @@ invariant-slots g l = record {
   words : g.P.Cells.words l.parts ≡ g.P.Cells.words l.fn.parts;
   hidden : g.P.Parts.hidden l.parts ≡ g.P.Parts.hidden l.fn.parts;
   within : l.slot ≤ l.count;
-  beside : g.P.Parts.beside l.parts ≡ record (g.P.Parts.beside l.fn.parts) { values = aged_below l.fn.now l.slot (g.P.Parts.beside l.fn.parts).values };
+  aged : AgedBelow l.now l.slot (g.P.Parts.beside l.fn.parts) (g.P.Parts.beside l.parts);
 }
 
 abbrev pub decreases-slots : goal.decreases-slots

@@ -1,10 +1,12 @@
-use Rattle.std.proofs.Common.{ℕ, List, ap, ◌∙◌, subst}
+use Rattle.std.proofs.Common.{ℕ, List, length, ap, sym, ◌∙◌, subst}
 use Rattle.xf_types.specs.declared.call.Call.TheVariants.{StateDelete}
 use Rattle.xf_types.specs.declared.call.Reply.TheVariants as reply
 use Rattle.xf_sadimage.specs.States.{StatesStand}
+use Rattle.xf_sad.specs.Slots.{listed_in}
 use Rattle.xf_rows.specs.Rows.{entries_in}
 use Rattle.xf_rows.specs.Values.{Beside}
 use Rattle.xf_statecalls.proofs.Others.{others_none}
+use Rattle.xf_statecalls.proofs.Placed.{places_as, places_same}
 use Rattle.xf_statecalls.proofs.Replied.{not_deleted, answers_same, stands_same}
 use Rattle.xf_statecalls.proofs.deleting.state_delete.Goals as goal
 
@@ -28,3 +30,15 @@ pub returns-in-Some-clause-answer : goal.returns-in-Some-clause-answer
 returns-in-Some-clause-answer g c = λ m r.
     c.state_delete_ready.ensures.answer m
     (stands_same c.args.layout.now (g.D.Cells.words c.args.parts.now) _ (g.D.Parts.beside c.args.parts.now) _ m c.in-Some.ensures.words c.in-Some.ensures.beside r)
+
+pub returns-in-None-clause-out : goal.returns-in-None-clause-out
+returns-in-None-clause-out g c = c.requires.pool.taken ∙ ap (λ (w : List ℕ). length (listed_in c.args.layout.now.states w)) (sym c.in-None.ensures.words)
+
+pub returns-in-None-clause-places : goal.returns-in-None-clause-places
+returns-in-None-clause-places g c =
+    places_same c.args.layout.now (g.D.Cells.words c.args.parts.now) (g.D.Cells.words c.found_here.new.parts) (g.D.Parts.beside c.args.parts.now) c.requires.stands c.in-None.ensures.words
+
+pub returns-in-Some-clause-places : goal.returns-in-Some-clause-places
+returns-in-Some-clause-places g c =
+    places_as c.args.layout.now.states (g.D.Cells.words c.args.parts.now) (g.D.Cells.words c.found_here.new.parts) (g.D.Cells.words c.state_delete_ready.new.parts)
+    (g.D.Parts.beside c.args.parts.now) (g.D.Parts.beside c.found_here.new.parts) c.in-Some.ensures.words c.in-Some.ensures.beside c.state_delete_ready.ensures.places

@@ -1,10 +1,13 @@
-use Rattle.std.proofs.Common.{ℕ, List, ◌∙◌, subst}
+use Rattle.std.proofs.Common.{arith, ℕ, List, Some, length, ap, ◌∙◌, subst}
 use Rattle.xf_types.specs.Machine.{Machine}
 use Rattle.xf_types.specs.StateList.{has_id}
+use Rattle.xf_sad.specs.Places.{slots_but}
+use Rattle.xf_sad.specs.Slots.{listed_in}
 use Rattle.xf_rows.specs.Rows.{entries_in}
 use Rattle.xf_rows.specs.Values.{Beside}
 use Rattle.xf_rows.proofs.Finding.{latest_found}
 use Rattle.xf_statecalls.specs.Left.{RowAt, Occupied, StandsFor, around}
+use Rattle.xf_statecalls.proofs.Placed.{places_as}
 use Rattle.xf_statecalls.proofs.Replied.{row_at, occupied, deleted}
 use Rattle.xf_statecalls.proofs.Standing.{row_back, row_kept, row_sid}
 use Rattle.xf_statecalls.proofs.deleting.state_delete_ready.Given as given
@@ -42,3 +45,20 @@ returns-clause-answer g c = λ m r.
     let t = row_at c.args.layout.now i b m (has_id c.args.id.now) c.args.slot _ r f in
     deleted c.args.layout.now i (g.D.Cells.words c.leave.new.parts) b (g.D.Parts.beside c.leave.new.parts) m c.args.id.now c.args.slot c.sid_in_here-sid.result r f
     (c.sid_in_here-sid.ensures.answer ∙ row_sid c.args.layout.now i b m c.args.slot t) (leaves g c m t)
+
+pub returns-clause-out : goal.returns-clause-out
+returns-clause-out g c =
+    let fits = c.requires.pool.taken in
+    let one = c.leave.ensures.out in
+    let less = c.leave.ensures.less in
+    let same = ap (λ (w : List ℕ). length (listed_in c.args.layout.now.states w)) c.sid_in_here-sid.ensures.words in
+    omega (arith, fits, one, less, same)
+
+pub returns-clause-list : goal.returns-clause-list
+returns-clause-list g c =
+    c.leave.ensures.list ∙ ap (λ (w : List ℕ). slots_but (Some c.args.slot) (listed_in c.args.layout.now.states w)) c.sid_in_here-sid.ensures.words
+
+pub returns-clause-places : goal.returns-clause-places
+returns-clause-places g c =
+    places_as c.args.layout.now.states (g.D.Cells.words c.args.parts.now) (g.D.Cells.words c.sid_in_here-sid.new.parts) (g.D.Cells.words c.leave.new.parts)
+    (g.D.Parts.beside c.args.parts.now) (g.D.Parts.beside c.sid_in_here-sid.new.parts) c.sid_in_here-sid.ensures.words c.sid_in_here-sid.ensures.beside c.leave.ensures.places

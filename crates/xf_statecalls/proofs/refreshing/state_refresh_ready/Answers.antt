@@ -5,15 +5,20 @@ use Rattle.xf_types.specs.StateRules.{refreshed_record}
 use Rattle.xf_image.specs.Frames.{Frame}
 use Rattle.xf_sadidx.specs.Layout.{end_of}
 use Rattle.xf_local.specs.View.{LocalView, MayHave, renewed}
+use Rattle.xf_index.specs.Indexes.{records_in}
+use Rattle.xf_sadlist.specs.Listed.{with_states}
+use Rattle.xf_types.specs.Machine.{Shown}
 use Rattle.xf_rows.specs.Rows.{entries_in}
 use Rattle.xf_rows.specs.Values.{Beside, at, value_put}
 use Rattle.xf_rows.specs.Replies.{Answers}
 use Rattle.xf_types.specs.declared.call.Call.TheVariants.{StateUpdate}
 use Rattle.xf_types.specs.declared.call.Reply.TheVariants as reply
+use Rattle.xf_sadimage.specs.States.{StatesStand}
 use Rattle.xf_sad.specs.Slots.{listed_in}
 use Rattle.xf_statecalls.specs.Ready.{LeavesOthers}
 use Rattle.xf_rows.proofs.Finding.{latest_found}
 use Rattle.xf_statecalls.proofs.Others.{others_words, put_count, put_held}
+use Rattle.xf_statecalls.proofs.Placed.{place_put}
 use Rattle.xf_statecalls.proofs.Renewed.{may_have, renewed_is, slots_refreshed, used}
 use Rattle.xf_statecalls.proofs.Replied.{row_at}
 use Rattle.xf_statecalls.proofs.Standing.{entry_at, row_kept, row_state, row_none, row_record, size_same, states_same}
@@ -109,3 +114,21 @@ returns-clause-answer g c = λ m r.
     (c.renew.ensures.beside ∙ ap (λ (d : Beside). value_put d c.args.slot (renewed c.refreshed-fresh.result (at d c.args.slot))) mid
     ∙ ap (λ (v : LocalView). value_put b c.args.slot v) (renewed_is m.shown.time c.args.slot (at b c.args.slot) f.row c.args.spec.now c.refreshed-fresh.result (f.value c.requires.held) fresh))
     (ap (λ (s : Sa). s.sid) same))
+
+pub returns-clause-places : goal.returns-clause-places
+returns-clause-places g c =
+    let a = c.args.layout.now in
+    let i = g.D.Cells.words c.args.parts.now in
+    let b = g.D.Parts.beside c.args.parts.now in
+    let m = c.requires.stands.machine in
+    let r = c.requires.stands.stands in
+    let f = latest_found a i b m (has_id (id_of c.args.spec.now)) c.args.slot r (c.requires.found m.shown (entries_in r.rows) r.on_states) in
+    let t = row_at a i b m (has_id (id_of c.args.spec.now)) c.args.slot _ r f in
+    let st = entry_at a i b m c.args.slot t in
+    let y : Sa = refreshed_record c.args.spec.now t.row.1.0 in
+    let u : Shown = with_states m.shown (records_in (entries_in t.place.front ++ ((c.args.slot, y) ∷ entries_in t.place.back))) in
+    let after : StatesStand a.states (g.D.Cells.words c.renew.new.parts) u (entries_in t.place.front ++ ((c.args.slot, y) ∷ entries_in t.place.back)) =
+    states_same a.states (g.D.Cells.words c.refresh_here.new.parts) (g.D.Cells.words c.renew.new.parts) u (entries_in t.place.front ++ ((c.args.slot, y) ∷ entries_in t.place.back)) c.renew.ensures.words
+    (c.refresh_here.ensures.stands m.shown (entries_in t.place.front) (entries_in t.place.back) t.row.1.0
+    (states_same a.states i (g.D.Cells.words c.state_here.new.parts) m.shown (entries_in t.place.front ++ ((c.args.slot, t.row.1.0) ∷ entries_in t.place.back)) c.in-Some.ensures.words st)) in
+    place_put a i (g.D.Cells.words c.renew.new.parts) b m c.args.slot u y t c.requires.held refl after

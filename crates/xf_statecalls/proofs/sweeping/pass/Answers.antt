@@ -1,6 +1,7 @@
-use Rattle.std.proofs.Common.{◌≡◌, ℕ, Bool, List, ap, ◌∙◌, subst, cond}
+use Rattle.std.proofs.Common.{◌≡◌, ℕ, Bool, true, List, length, ap, sym, ◌∙◌, subst, cond}
 use Rattle.xf_types.specs.declared.state.Sa.{Sa}
 use Rattle.xf_types.specs.Machine.{Machine}
+use Rattle.xf_sad.specs.Slots.{listed_in}
 use Rattle.xf_rows.specs.Values.{Beside}
 use Rattle.xf_statecalls.specs.Choices.{chosen}
 use Rattle.xf_statecalls.specs.Left.{RowAt, StandsFor}
@@ -52,3 +53,15 @@ pub returns-in-Some-clause-stands : goal.returns-in-Some-clause-stands
 returns-in-Some-clause-stands g c = λ m t.
     subst (λ (x : Bool). StandsFor c.args.layout.now (g.D.Cells.words c.leave_if.new.parts) (g.D.Parts.beside c.leave_if.new.parts) m.shown (passed x t.place.front t.row t.place.back)) (chosen_is g c m t)
     (leaves g c m t)
+
+pub returns-in-None-clause-out : goal.returns-in-None-clause-out
+returns-in-None-clause-out g c = λ out. out ∙ ap (λ (w : List ℕ). length (listed_in c.args.layout.now.states w)) (sym c.in-None.ensures.words)
+
+pub returns-in-Some-clause-out : goal.returns-in-Some-clause-out
+returns-in-Some-clause-out g c = λ out.
+    c.leave_if.ensures.out (out ∙ ap (λ (w : List ℕ). length (listed_in c.args.layout.now.states w)) (sym c.in-Some.ensures.words))
+
+pub leave_if-requires-clause-held : goal.leave_if-requires-clause-held
+leave_if-requires-clause-held g c = λ leaves.
+    ap (λ (b : Beside). b.held c.args.slot) c.in-Some.ensures.beside
+    ∙ c.requires.held c.in-Some.state (sym c.in-Some.ensures.answer) (sym c.takes-leaves.ensures ∙ leaves)

@@ -1,5 +1,6 @@
-use Rattle.std.proofs.Common.{◌≡◌, ℕ, ◌≤◌, Bool, List, Option, refl, ap, sym, ◌∙◌, subst, rules, arith, cond}
+use Rattle.std.proofs.Common.{◌≡◌, ℕ, ◌≤◌, Bool, true, List, length, Option, Some, refl, ap, sym, ◌∙◌, subst, rules, arith, cond}
 use Rattle.xf_types.specs.Machine.{Machine}
+use Rattle.xf_sadidx.specs.Layout.{record_at}
 use Rattle.xf_sad.specs.Slots.{PoolFits, listed_in}
 use Rattle.xf_rows.specs.Rows.{entries_in}
 use Rattle.xf_rows.specs.Values.{Beside}
@@ -7,8 +8,9 @@ use Rattle.xf_statecalls.specs.Choices.{chosen}
 use Rattle.xf_statecalls.specs.Left.{RowAt, Occupied, StandsFor}
 use Rattle.xf_statecalls.specs.Sweeps.{passed, Sweeping}
 use Rattle.xf_statecalls.proofs.Others.{others_none, others_as, others_twice}
-use Rattle.xf_statecalls.proofs.Standing.{row_back, row_kept}
-use Rattle.xf_statecalls.proofs.Swept.{sweeping_begins, sweeping_goes, sweeping_ends, sweeping_stops, sweeping_same, comes, started_not, started_more, started_as}
+use Rattle.xf_statecalls.proofs.Placed.{places_swept}
+use Rattle.xf_statecalls.proofs.Standing.{row_kept}
+use Rattle.xf_statecalls.proofs.Swept.{held_next, takes_back, sweeping_begins, sweeping_goes, sweeping_ends, sweeping_stops, sweeping_same, comes, started_not, started_more, started_as}
 use Rattle.xf_statecalls.proofs.sweeping.remove_all.Given as given
 use Rattle.xf_statecalls.proofs.sweeping.remove_all.Goals as goal
 
@@ -30,8 +32,9 @@ slots-init g c =
       started = started_not i (g.D.Cells.words first.new.parts) b (g.D.Parts.beside first.new.parts) _ _ first.ensures.words first.ensures.beside first.ensures.begun;
       sweeping = λ m t.
           sweeping_same a i (g.D.Cells.words first.new.parts) b (g.D.Parts.beside first.new.parts) (chosen c.args.choice.now) m.shown t.rows first.result a.states.slots 0 first.ensures.words first.ensures.beside
-          (sweeping_begins a i b (chosen c.args.choice.now) m first.result t (first.ensures.answer m.shown (entries_in t.rows) t.on_states));
-      pool = subst (λ (w : List ℕ). PoolFits (g.P.Pool.capacity c.args.pool.now) (g.P.Pool.taken c.args.pool.now) (g.P.Pool.gives c.args.pool.now) (g.P.Pool.takes c.args.pool.now) a.states.slots (listed_in a.states w))
+          (sweeping_begins a i b (chosen c.args.choice.now) m first.result t c.requires.turns (first.ensures.answer m.shown (entries_in t.rows) t.on_states));
+      out = c.requires.pool.taken ∙ ap (λ (w : List ℕ). length (listed_in a.states w)) (sym first.ensures.words);
+      pool = λ lasts. subst (λ (w : List ℕ). PoolFits (g.P.Pool.capacity c.args.pool.now) (g.P.Pool.taken c.args.pool.now) (g.P.Pool.gives c.args.pool.now) (g.P.Pool.takes c.args.pool.now) a.states.slots (listed_in a.states w))
           (sym first.ensures.words) c.requires.pool;
     }
 
@@ -39,17 +42,27 @@ pub pass-gone-requires-clause-behind : goal.pass-gone-requires-clause-behind
 pass-gone-requires-clause-behind g c = subst (λ (n : ℕ). n ≤ c.args.layout.now.policies.base) (sym (c.next_here-at.ensures.hidden ∙ c.slots.invariant.hidden)) c.requires.behind
 
 pub pass-gone-requires-clause-held : goal.pass-gone-requires-clause-held
-pass-gone-requires-clause-held g c =
-    ap (λ (b : Beside). b.held c.in-Some.slot) c.next_here-at.ensures.beside ∙ ap (λ (f : ℕ → Bool). f c.in-Some.slot) c.slots.invariant.others.turns ∙ c.requires.turns c.in-Some.slot
+pass-gone-requires-clause-held g c = λ r is yes.
+    let n = c.requires.stands in
+    let at_slot : Sweeping c.args.layout.now (g.D.Cells.words c.slots.parts) (g.D.Parts.beside c.slots.parts) (chosen c.args.choice.now) n.machine.shown n.stands.rows (Some c.in-Some.slot) c.slots.left c.slots.count =
+    subst (λ (x : Option ℕ). Sweeping c.args.layout.now (g.D.Cells.words c.slots.parts) (g.D.Parts.beside c.slots.parts) (chosen c.args.choice.now) n.machine.shown n.stands.rows x c.slots.left c.slots.count) c.in-Some.is
+    (c.slots.invariant.sweeping n.machine n.stands) in
+    ap (λ (b : Beside). b.held c.in-Some.slot) c.next_here-at.ensures.beside
+    ∙ held_next c.args.layout.now (g.D.Cells.words c.slots.parts) (g.D.Parts.beside c.slots.parts) (chosen c.args.choice.now) n.machine.shown n.stands.rows c.in-Some.slot c.slots.left c.slots.count
+    at_slot r (subst (λ (w : List ℕ). record_at c.args.layout.now.states w c.in-Some.slot ≡ Some r) c.next_here-at.ensures.words is) yes
 
 pub pass-gone-requires-clause-back : goal.pass-gone-requires-clause-back
 pass-gone-requires-clause-back g c =
     let n = c.requires.stands in
-    let o : Occupied c.args.layout.now (g.D.Cells.words c.slots.parts) (g.D.Parts.beside c.slots.parts) c.in-Some.slot =
-    comes c.args.layout.now (g.D.Cells.words c.slots.parts) (g.D.Parts.beside c.slots.parts) (chosen c.args.choice.now) n.machine.shown n.stands.rows c.in-Some.slot c.slots.left c.slots.count
-    (subst (λ (x : Option ℕ). Sweeping c.args.layout.now (g.D.Cells.words c.slots.parts) (g.D.Parts.beside c.slots.parts) (chosen c.args.choice.now) n.machine.shown n.stands.rows x c.slots.left c.slots.count) c.in-Some.is
-    (c.slots.invariant.sweeping n.machine n.stands)) in
-    row_back c.args.layout.now (g.D.Cells.words c.slots.parts) (g.D.Parts.beside c.slots.parts) o.machine c.in-Some.slot _ _ _ _ o.at c.slots.invariant.pool
+    let at_slot : Sweeping c.args.layout.now (g.D.Cells.words c.slots.parts) (g.D.Parts.beside c.slots.parts) (chosen c.args.choice.now) n.machine.shown n.stands.rows (Some c.in-Some.slot) c.slots.left c.slots.count =
+    subst (λ (x : Option ℕ). Sweeping c.args.layout.now (g.D.Cells.words c.slots.parts) (g.D.Parts.beside c.slots.parts) (chosen c.args.choice.now) n.machine.shown n.stands.rows x c.slots.left c.slots.count) c.in-Some.is
+    (c.slots.invariant.sweeping n.machine n.stands) in
+    let i = g.D.Cells.words c.slots.parts in
+    let b = g.D.Parts.beside c.slots.parts in
+    let o : Occupied c.args.layout.now i b c.in-Some.slot =
+    comes c.args.layout.now i b (chosen c.args.choice.now) n.machine.shown n.stands.rows c.in-Some.slot c.slots.left c.slots.count at_slot in
+    takes_back (g.P.Pool.lasts c.args.pool.now) g.P.Pool.taken g.P.Pool.takes c.slots.pool c.args.layout.now i b o.machine c.in-Some.slot _ _ o.at c.requires.back
+    c.slots.invariant.pool c.slots.invariant.out
 
 pub pass-gone-requires-clause-occupied : goal.pass-gone-requires-clause-occupied
 pass-gone-requires-clause-occupied g c =
@@ -104,11 +117,12 @@ slots-preserved g c =
           (started_as one.result i (g.D.Cells.words next.new.parts) k b (g.D.Parts.beside next.new.parts) d _ _ _ next.ensures.words next.ensures.beside next.ensures.begun one.ensures.started);
       sweeping = λ m r.
           sweeping_goes a i k b d (chosen c.args.choice.now) m.shown r.rows c.in-Some.slot next.result c.slots.left c.slots.count one.result
-          (subst (λ (x : Option ℕ). Sweeping a i b (chosen c.args.choice.now) m.shown r.rows x c.slots.left c.slots.count) c.in-Some.is (c.slots.invariant.sweeping m r))
+          (subst (λ (x : Option ℕ). Sweeping a i b (chosen c.args.choice.now) m.shown r.rows x c.slots.left c.slots.count) c.in-Some.is (c.slots.invariant.sweeping m r)) (one.ensures.others.turns ∙ ap (λ (x : Beside). x.held) next.ensures.beside)
           (λ s front back p st. next.ensures.answer s front back p st) (passes g c) (counts g c);
-      pool = one.ensures.pool (c.slots.invariant.lasts ∙ c.requires.lasts)
+      out = one.ensures.out (c.slots.invariant.out ∙ ap (λ (w : List ℕ). length (listed_in a.states w)) (sym next.ensures.words));
+      pool = λ lasts. one.ensures.pool (c.slots.invariant.lasts ∙ lasts)
           (subst (λ (w : List ℕ). PoolFits (g.P.Pool.capacity c.slots.pool) (g.P.Pool.taken c.slots.pool) (g.P.Pool.gives c.slots.pool) (g.P.Pool.takes c.slots.pool) a.states.slots (listed_in a.states w)) (sym next.ensures.words)
-          c.slots.invariant.pool);
+          (c.slots.invariant.pool lasts));
     }
 
 pub returns-in_default-clause-swept : goal.returns-in_default-clause-swept
@@ -121,3 +135,20 @@ returns-clause-swept g c = λ m t.
     let f = c.slots-test.false in
     sweeping_ends c.args.layout.now (g.D.Cells.words c.slots.parts) (g.D.Parts.beside c.slots.parts) (chosen c.args.choice.now) m.shown t.rows c.slots.at c.slots.left c.slots.count (omega (arith, f))
     (c.slots.invariant.sweeping m t)
+
+pub returns-in_default-clause-places : goal.returns-in_default-clause-places
+returns-in_default-clause-places g c =
+    let n = c.requires.stands in
+    let i = g.D.Cells.words c.slots.parts in
+    let b = g.D.Parts.beside c.slots.parts in
+    places_swept c.args.layout.now (g.D.Cells.words c.args.parts.now) i (g.D.Parts.beside c.args.parts.now) b n.machine (chosen c.args.choice.now) c.slots.count n.stands c.requires.turns
+    (sweeping_stops c.args.layout.now i b (chosen c.args.choice.now) n.machine.shown n.stands.rows c.slots.at c.slots.left c.slots.count c.in_default.is (c.slots.invariant.sweeping n.machine n.stands))
+
+pub returns-clause-places : goal.returns-clause-places
+returns-clause-places g c =
+    let f = c.slots-test.false in
+    let n = c.requires.stands in
+    let i = g.D.Cells.words c.slots.parts in
+    let b = g.D.Parts.beside c.slots.parts in
+    places_swept c.args.layout.now (g.D.Cells.words c.args.parts.now) i (g.D.Parts.beside c.args.parts.now) b n.machine (chosen c.args.choice.now) c.slots.count n.stands c.requires.turns
+    (sweeping_ends c.args.layout.now i b (chosen c.args.choice.now) n.machine.shown n.stands.rows c.slots.at c.slots.left c.slots.count (omega (arith, f)) (c.slots.invariant.sweeping n.machine n.stands))

@@ -1,4 +1,4 @@
-use Rattle.std.proofs.Common.{◌≡◌, ◌+◌, ◌≤◌}
+use Rattle.std.proofs.Common.{◌≡◌, ◌+◌, ◌≤◌, true, length}
 use Rattle.xf_types.specs.Machine.{Machine}
 use Rattle.xf_chain.specs.Chains.{Below}
 use Rattle.xf_sad.specs.Slots.{PoolFits, listed_in}
@@ -21,7 +21,8 @@ invariant-slots g l = record {
   started : Started l.count (g.D.Cells.words l.fn.parts) (g.D.Cells.words l.parts) (g.D.Parts.beside l.fn.parts) (g.D.Parts.beside l.parts) (g.D.Load.begun l.fn.parts) (g.D.Load.begun l.parts);
   sweeping : (m : Machine) (t : Stands l.layout (g.D.Cells.words l.fn.parts) (g.D.Parts.beside l.fn.parts) m)
       → Sweeping l.layout (g.D.Cells.words l.parts) (g.D.Parts.beside l.parts) (chosen l.choice) m.shown t.rows l.at l.left l.count;
-  pool : PoolFits (g.P.Pool.capacity l.pool) (g.P.Pool.taken l.pool) (g.P.Pool.gives l.pool) (g.P.Pool.takes l.pool) l.layout.states.slots (listed_in l.layout.states (g.D.Cells.words l.parts));
+  out : g.P.Pool.taken l.pool ≡ length (listed_in l.layout.states (g.D.Cells.words l.parts));
+  pool : g.P.Pool.lasts l.fn.pool ≡ true → PoolFits (g.P.Pool.capacity l.pool) (g.P.Pool.taken l.pool) (g.P.Pool.gives l.pool) (g.P.Pool.takes l.pool) l.layout.states.slots (listed_in l.layout.states (g.D.Cells.words l.parts));
 }
 
 abbrev pub decreases-slots : goal.decreases-slots

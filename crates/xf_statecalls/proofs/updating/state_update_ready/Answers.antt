@@ -4,6 +4,7 @@ use Rattle.xf_types.specs.declared.call.Reply.{Reply}
 use Rattle.xf_types.specs.declared.call.Reply.TheVariants as reply
 use Rattle.xf_types.specs.declared.state.Sa.{Sa}
 use Rattle.xf_types.specs.declared.state.SaSpec.{SaSpec}
+use Rattle.xf_types.specs.Codes.{is_refusal_of}
 use Rattle.xf_types.specs.History.{is_contended}
 use Rattle.xf_types.specs.StateList.{has_id, latest_match, id_of}
 use Rattle.xf_types.specs.StateRules.{state_update}
@@ -11,7 +12,8 @@ use Rattle.xf_image.specs.Frames.{Frame}
 use Rattle.xf_sadidx.specs.Layout.{end_of}
 use Rattle.xf_sadimage.specs.States.{StatesStand}
 use Rattle.xf_sad.specs.Changes.{Comes}
-use Rattle.xf_sad.specs.Slots.{PoolFits, Where}
+use Rattle.xf_sad.specs.Places.{KeepsPlaces, SlotCame}
+use Rattle.xf_sad.specs.Slots.{PoolFits, Where, listed_in}
 use Rattle.xf_sad.proofs.Rules.{named_is}
 use Rattle.xf_rows.specs.Changes.{ended}
 use Rattle.xf_rows.specs.Layouts.{Fits}
@@ -23,10 +25,12 @@ use Rattle.xf_laws.specs.OwnLaws.{added_record}
 use Rattle.xf_statecalls.specs.Windows.{IsWindowOf, value_of_new}
 use Rattle.xf_statecalls.proofs.Come.{came, at_now, updated_adds}
 use Rattle.xf_statecalls.proofs.Others.{others_none, others_both, turned_count, turned_held}
-use Rattle.xf_statecalls.proofs.Refused.{refused, fault_remembers, fault_settled}
+use Rattle.xf_statecalls.proofs.Placed.{came_both, places_same}
+use Rattle.xf_statecalls.proofs.Refused.{refused, fault_remembers, fault_settled, fault_refuses}
 use Rattle.xf_statecalls.proofs.Replied.{answers_same, stands_same}
 use Rattle.xf_statecalls.proofs.Named.{NamedAt, named_at}
 use Rattle.xf_statecalls.proofs.Standing.{gone_back, pool_same, size_same, slots_behind}
+use Rattle.xf_statecalls.proofs.updating.state_update_ready.Given as given
 use Rattle.xf_statecalls.proofs.updating.state_update_ready.Goals as goal
 
 pub update_here-requires-clause-back : goal.update_here-requires-clause-back
@@ -251,3 +255,46 @@ returns-in-Ok-clause-pool g c = λ lasts.
     (sym (slots_behind a (g.D.Cells.words c.update_here.new.parts) (g.D.Cells.words c.turn_values.new.parts) _ _ (g.D.Parts.hidden c.args.parts.now)
     (subst (λ (q : ℕ). Fits a q) (sym c.in-Ok.ensures.frame.size) n) c.requires.ready.behind frame x.stands))
     (c.in-Ok.ensures.pool m.shown (entries_in r1.rows) lasts at r1.on_states fits1)
+
+both : (g : given.Over) (c : goal.After-turn_values g) → KeepsPlaces c.args.layout.now.states (g.D.Parts.beside c.args.parts.now).held (g.D.Cells.words c.args.parts.now) (g.D.Cells.words c.turn_values.new.parts)
+    × SlotCame (g.P.Pool.gives c.args.pool.now) (Some c.args.slot) (listed_in c.args.layout.now.states (g.D.Cells.words c.args.parts.now)) (listed_in c.args.layout.now.states (g.D.Cells.words c.turn_values.new.parts))
+both g c =
+    let a = c.args.layout.now in
+    let i = g.D.Cells.words c.args.parts.now in
+    let b = g.D.Parts.beside c.args.parts.now in
+    let i1 = g.D.Cells.words c.new_here-state.new.parts in
+    let b1 = g.D.Parts.beside c.new_here-state.new.parts in
+    let w = c.new_here-state.ensures.words in
+    let v = c.new_here-state.ensures.beside in
+    let m = c.requires.stands.machine in
+    let r = c.requires.stands.stands in
+    let r1 : Stands a i1 b1 m = stands_same a i i1 b b1 m w v r in
+    let at = at_now a i b m c.new_here-state.result.added r c.new_here-state.ensures.added c.requires.young in
+    let fits1 = pool_same a.states i i1 (g.P.Pool.capacity c.args.pool.now) (g.P.Pool.taken c.args.pool.now) (g.P.Pool.gives c.args.pool.now) (g.P.Pool.takes c.args.pool.now) w c.requires.pool in
+    let st : StatesStand a.states i m.shown (entries_in r1.rows) = subst (λ (y : List ℕ). StatesStand a.states y m.shown (entries_in r1.rows)) w r1.on_states in
+    let named : NamedAt a.states i (entries_in r1.rows) (has_id (id_of c.args.spec.now)) c.args.slot =
+    named_at a.states i m.shown (entries_in r1.rows) (has_id (id_of c.args.spec.now)) c.args.slot st (c.requires.found m.shown (entries_in r1.rows) st) in
+    let x : Comes a.states (g.D.Cells.words c.update_here.new.parts) m.shown (entries_in r1.rows) (g.P.Pool.gives c.args.pool.now) (Some c.args.slot) c.in-Ok.new (state_update m.shown c.args.spec.now) =
+    c.in-Ok.ensures.comes m.shown (entries_in r1.rows) c.args.slot named.state named.latest (c.requires.larval named.state named.record_is) at r1.on_states fits1 in
+    let frame : Frame 0 (g.D.Parts.hidden c.args.parts.now) (g.D.Cells.words c.update_here.new.parts) (g.D.Cells.words c.turn_values.new.parts) =
+    subst (λ (n : ℕ). Frame 0 n (g.D.Cells.words c.update_here.new.parts) (g.D.Cells.words c.turn_values.new.parts)) (c.in-Ok.ensures.hidden ∙ c.new_here-state.ensures.hidden) c.turn_values.ensures.frame in
+    let n : Fits a (length i1) = size_same a i1 (g.D.Load.size c.args.parts.now) (g.D.Load.size c.new_here-state.new.parts) (g.met.D.Cells.all c.new_here-state.new.parts) c.new_here-state.ensures.size c.requires.ready.fits in
+    let adds = updated_adds m.shown c.args.spec.now (latest_match m.shown.states (id_of c.args.spec.now)) x.shown x.leaves x.new x.change in
+    came_both a i i1 (g.D.Cells.words c.update_here.new.parts) (g.D.Cells.words c.turn_values.new.parts) b b1 m (g.D.Parts.hidden c.args.parts.now) m.shown.next_seq _ (g.P.Pool.gives c.args.pool.now) (Some c.args.slot) _ r1 w v n
+    c.requires.ready.behind c.in-Ok.ensures.frame frame x adds.shown_is c.requires.held c.requires.ready.turns
+
+pub returns-in-Ok-clause-places : goal.returns-in-Ok-clause-places
+returns-in-Ok-clause-places g c = (both g c).0
+
+pub returns-in-Ok-clause-given : goal.returns-in-Ok-clause-given
+returns-in-Ok-clause-given g c = λ done. (both g c).1
+
+pub returns-in-Err-clause-places : goal.returns-in-Err-clause-places
+returns-in-Err-clause-places g c =
+    places_same c.args.layout.now (g.D.Cells.words c.args.parts.now) (g.D.Cells.words c.update_here.new.parts) (g.D.Parts.beside c.args.parts.now) c.requires.stands
+    (c.in-Err.ensures.refused refl ∙ c.new_here-state.ensures.words)
+
+pub returns-in-Err-clause-given : goal.returns-in-Err-clause-given
+returns-in-Err-clause-given g c = λ done.
+    let refuses : is_refusal_of c.fault_reply.result ≡ true = ap (λ (x : Reply). is_refusal_of x) c.fault_reply.ensures ∙ fault_refuses c.in-Err.fault in
+    absurd (cc)

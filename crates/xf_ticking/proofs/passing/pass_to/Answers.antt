@@ -1,19 +1,19 @@
-use Rattle.std.proofs.Common.{◌≡◌, ℕ, true, List, length, slice_set, ap, sym, ◌∙◌, subst}
+use Rattle.std.proofs.Common.{◌≡◌, ℕ, true, List, All, length, slice_set, ap, sym, ◌∙◌, subst}
 use Rattle.xf_types.specs.declared.state.Sa.{Sa}
 use Rattle.xf_types.specs.Machine.{Shown}
 use Rattle.xf_types.specs.TickRules.{at_time}
 use Rattle.xf_spd.specs.Slots.{PoolFits as PolicyPoolFits}
-use Rattle.xf_image.specs.Readings.{listed_in}
+use Rattle.xf_image.specs.Readings.{listed_in as policies_listed}
 use Rattle.xf_sad.specs.Slots.{PoolFits as StatePoolFits, listed_in as states_listed}
 use Rattle.xf_sadidx.specs.Layout.{end_of}
 use Rattle.xf_sadimage.specs.States.{StatesStand}
 use Rattle.xf_rows.specs.Layouts.{Fits}
 use Rattle.xf_rows.specs.Values.{Beside}
 use Rattle.xf_rows.specs.Stands.{Stands}
-use Rattle.xf_rows.specs.Ticks.{all_aged}
+use Rattle.xf_rows.specs.Ticks.{AreAged}
 use Rattle.xf_policies.specs.Standing.{LeavesOthers}
 use Rattle.xf_ticking.specs.Counted.{CountsStates}
-use Rattle.xf_ticking.specs.Ready.{LeavesOutside}
+use Rattle.xf_ticking.specs.Ready.{HoldsListed, LeavesOutside}
 use Rattle.xf_ticking.specs.Walks.{StatesStood, StandsLeft}
 use Rattle.xf_ticking.proofs.Places.{fits_still}
 use Rattle.xf_ticking.proofs.Passed.{counts_then, policies_stood, states_stood, stands_passed, states_first, states_last, policies_last, outside_passed}
@@ -29,8 +29,15 @@ pub states_later_here-requires-clause-count : goal.states_later_here-requires-cl
 states_later_here-requires-clause-count g c = ap (λ (b : Beside). length b.values) c.policies_later_here.ensures.beside ∙ c.requires.stands.stands.count
 
 pub states_later_here-requires-clause-turns : goal.states_later_here-requires-clause-turns
-states_later_here-requires-clause-turns g c = λ slot.
-    subst (λ (b : Beside). b.held slot ≡ true) (sym c.policies_later_here.ensures.beside) (c.requires.ready.turns slot)
+states_later_here-requires-clause-turns g c =
+    let layout = c.args.layout.now in
+    let b : Beside = g.D.Parts.beside c.args.parts.now in
+    let j : List ℕ = g.D.Cells.words c.policies_later_here.new.parts in
+    subst (λ (x : Beside). HoldsListed layout j x) (sym c.policies_later_here.ensures.beside)
+    (subst (λ (xs : List ℕ). All (λ (slot : ℕ). b.held slot ≡ true) xs)
+    (states_first layout (g.D.Cells.words c.args.parts.now) j b (g.D.Parts.hidden c.args.parts.now)
+    (subst (λ (n : ℕ). Fits layout n) (sym (g.met.D.Cells.all c.args.parts.now)) c.requires.ready.fits) c.policies_later_here.ensures.others c.requires.stands)
+    c.requires.ready.turns)
 
 pub states_later_here-requires-clause-stood : goal.states_later_here-requires-clause-stood
 states_later_here-requires-clause-stood g c =
@@ -65,8 +72,8 @@ words_are g c = c.age_all.ensures.words ∙ c.set_time.ensures.words
 values_same : (g : given.Over) (c : goal.After-age_all g) → g.D.Parts.beside c.set_time.new.parts ≡ g.D.Parts.beside c.args.parts.now
 values_same g c = c.set_time.ensures.beside ∙ (c.states_later_here.ensures.beside ∙ c.policies_later_here.ensures.beside)
 
-values_are : (g : given.Over) (c : goal.After-age_all g) → g.D.Parts.beside c.age_all.new.parts ≡ all_aged c.args.now (g.D.Parts.beside c.args.parts.now)
-values_are g c = c.age_all.ensures.beside ∙ ap (λ (b : Beside). all_aged c.args.now b) (values_same g c)
+values_are : (g : given.Over) (c : goal.After-age_all g) → AreAged c.args.now (g.D.Parts.beside c.args.parts.now) (g.D.Parts.beside c.age_all.new.parts)
+values_are g c = subst (λ (b : Beside). AreAged c.args.now b (g.D.Parts.beside c.age_all.new.parts)) (values_same g c) c.age_all.ensures.beside
 
 fits_all : (g : given.Over) (c : goal.After-age_all g) → Fits c.args.layout.now (length (g.D.Cells.words c.args.parts.now))
 fits_all g c = subst (λ (n : ℕ). Fits c.args.layout.now n) (sym (g.met.D.Cells.all c.args.parts.now)) c.requires.ready.fits
@@ -89,10 +96,6 @@ stood_all g c =
     states_stood c.args.layout.now (g.D.Cells.words c.args.parts.now) (words_then g c) (g.D.Parts.beside c.args.parts.now) (g.D.Parts.hidden c.args.parts.now)
     (fits_all g c) c.policies_later_here.ensures.others c.requires.stands
 
-pub age_all-requires-clause-held : goal.age_all-requires-clause-held
-age_all-requires-clause-held g c = λ slot.
-    subst (λ (b : Beside). b.held slot ≡ true) (sym (c.set_time.ensures.beside ∙ (c.states_later_here.ensures.beside ∙ c.policies_later_here.ensures.beside))) (c.requires.ready.turns slot)
-
 pub returns-clause-outside : goal.returns-clause-outside
 returns-clause-outside g c =
     let layout = c.args.layout.now in
@@ -100,34 +103,51 @@ returns-clause-outside g c =
     let b : Beside = g.D.Parts.beside c.args.parts.now in
     let hidden : ℕ = g.D.Parts.hidden c.args.parts.now in
     subst (λ (x : List ℕ). LeavesOutside layout hidden i x b (g.D.Parts.beside c.age_all.new.parts)) (sym (words_are g c))
-    (subst (λ (d : Beside). LeavesOutside layout hidden i (slice_set (words_last g c) layout.clock c.args.now) b d) (sym (values_are g c))
-    (outside_passed layout i (words_then g c) (words_last g c) b hidden c.args.now (fits_all g c) c.policies_later_here.ensures.others (others_then g c)))
+    (outside_passed layout i (words_then g c) (words_last g c) b (g.D.Parts.beside c.age_all.new.parts) hidden c.args.now (fits_all g c) (values_are g c)
+    c.policies_later_here.ensures.others (others_then g c))
 
 pub returns-clause-stands : goal.returns-clause-stands
 returns-clause-stands g c = λ m r.
     let layout = c.args.layout.now in
     let b : Beside = g.D.Parts.beside c.args.parts.now in
     subst (λ (x : List ℕ). Stands layout x (g.D.Parts.beside c.age_all.new.parts) (at_time m c.args.now)) (sym (words_are g c))
-    (subst (λ (d : Beside). Stands layout (slice_set (words_last g c) layout.clock c.args.now) d (at_time m c.args.now)) (sym (values_are g c))
-    (stands_passed layout (g.D.Cells.words c.args.parts.now) (words_then g c) (words_last g c) b m (g.D.Parts.hidden c.args.parts.now) c.args.now (fits_all g c) c.requires.ready.behind
-    c.requires.ready.turns c.policies_later_here.ensures.others (others_then g c) r (λ s es st. c.policies_later_here.ensures.later s es st) (λ s es st. left_then g c s es st)))
+    (stands_passed layout (g.D.Cells.words c.args.parts.now) (words_then g c) (words_last g c) b (g.D.Parts.beside c.age_all.new.parts) m (g.D.Parts.hidden c.args.parts.now) c.args.now
+    (fits_all g c) c.requires.ready.behind c.requires.ready.turns (values_are g c) c.policies_later_here.ensures.others (others_then g c) r
+    (λ s es st. c.policies_later_here.ensures.later s es st) (λ s es st. left_then g c s es st))
+
+-- the slots that are listed at last
+policies_are : (g : given.Over) (c : goal.After-age_all g)
+    → policies_listed c.args.layout.now.policies (words_then g c) ≡ policies_listed c.args.layout.now.policies (g.D.Cells.words c.age_all.new.parts)
+policies_are g c =
+    let layout = c.args.layout.now in
+    policies_last layout (g.D.Cells.words c.args.parts.now) (words_then g c) (words_last g c) (g.D.Parts.hidden c.args.parts.now) c.args.now (fits_then g c) c.requires.ready.behind
+    (others_then g c) (policies_stood layout (g.D.Cells.words c.args.parts.now) (g.D.Parts.beside c.args.parts.now) c.requires.stands) (λ s es st. c.policies_later_here.ensures.later s es st)
+    ∙ ap (λ (x : List ℕ). policies_listed layout.policies x) (sym (words_are g c))
+
+states_are : (g : given.Over) (c : goal.After-age_all g)
+    → states_listed c.args.layout.now.states (words_last g c) ≡ states_listed c.args.layout.now.states (g.D.Cells.words c.age_all.new.parts)
+states_are g c =
+    let layout = c.args.layout.now in
+    states_last layout (words_then g c) (words_last g c) (g.D.Parts.beside c.args.parts.now) c.args.now (fits_still layout (words_then g c) (words_last g c) (others_then g c).size (fits_then g c))
+    (stood_all g c) (λ s es st. left_then g c s es st)
+    ∙ ap (λ (x : List ℕ). states_listed layout.states x) (sym (words_are g c))
+
+pub returns-clause-policies_out : goal.returns-clause-policies_out
+returns-clause-policies_out g c = c.policies_later_here.ensures.out ∙ ap (λ (xs : List ℕ). length xs) (policies_are g c)
+
+pub returns-clause-states_out : goal.returns-clause-states_out
+returns-clause-states_out g c = c.states_later_here.ensures.out ∙ ap (λ (xs : List ℕ). length xs) (states_are g c)
 
 pub returns-clause-policies : goal.returns-clause-policies
-returns-clause-policies g c =
+returns-clause-policies g c = λ lasts.
     let layout = c.args.layout.now in
     let pool = c.policies_later_here.new.pool in
     subst (λ (xs : List ℕ). PolicyPoolFits (g.P.Pool.capacity pool) (g.P.Pool.taken pool) (g.P.Pool.gives pool) (g.P.Pool.takes pool) layout.policies.slots xs)
-    (policies_last layout (g.D.Cells.words c.args.parts.now) (words_then g c) (words_last g c) (g.D.Parts.hidden c.args.parts.now) c.args.now (fits_then g c) c.requires.ready.behind
-    (others_then g c) (policies_stood layout (g.D.Cells.words c.args.parts.now) (g.D.Parts.beside c.args.parts.now) c.requires.stands) (λ s es st. c.policies_later_here.ensures.later s es st)
-    ∙ ap (λ (x : List ℕ). listed_in layout.policies x) (sym (words_are g c)))
-    c.policies_later_here.ensures.pool
+    (policies_are g c) (c.policies_later_here.ensures.pool lasts)
 
 pub returns-clause-states : goal.returns-clause-states
-returns-clause-states g c =
+returns-clause-states g c = λ lasts.
     let layout = c.args.layout.now in
     let pool = c.states_later_here.new.pool in
     subst (λ (xs : List ℕ). StatePoolFits (g.Q.Pool.capacity pool) (g.Q.Pool.taken pool) (g.Q.Pool.gives pool) (g.Q.Pool.takes pool) layout.states.slots xs)
-    (states_last layout (words_then g c) (words_last g c) (g.D.Parts.beside c.args.parts.now) c.args.now (fits_still layout (words_then g c) (words_last g c) (others_then g c).size (fits_then g c))
-    (stood_all g c) (λ s es st. left_then g c s es st)
-    ∙ ap (λ (x : List ℕ). states_listed layout.states x) (sym (words_are g c)))
-    c.states_later_here.ensures.pool
+    (states_are g c) (c.states_later_here.ensures.pool lasts)

@@ -1,6 +1,6 @@
 use Rattle.std.proofs.Common.{ℕ, ◌≤◌, sym, subst}
 use Rattle.xf_inexact.specs.Whole.{whole_end}
-use Rattle.xf_policies.specs.Standing.{LeavesOthers, Lasts}
+use Rattle.xf_policies.specs.Standing.{LeavesOthers}
 use Rattle.xf_ticking.proofs.Quiet.{policies_quiet}
 use Rattle.xf_ticking.proofs.policies.policies_later_here.Goals as goal
 
@@ -8,17 +8,11 @@ pub policies_later-changes-requires-clause-hidden : goal.policies_later-changes-
 policies_later-changes-requires-clause-hidden g c =
     subst (λ (n : ℕ). n ≤ c.args.layout.now.policies.base) (sym (g.met.D.AllParts.same_hidden c.args.parts.now)) c.requires.behind
 
-pub policies_later-changes-requires-clause-back : goal.policies_later-changes-requires-clause-back
-policies_later-changes-requires-clause-back g c = Lasts c.requires.lasts
-
 pub returns-clause-others : goal.returns-clause-others
 returns-clause-others g c =
     let a = c.args.layout.now.policies in
     subst (λ (n : ℕ). LeavesOthers n a.base (whole_end a) (g.D.Cells.words c.args.parts.now) (g.D.Cells.words c.policies_later-changes.new.c))
     (g.met.D.AllParts.same_hidden c.args.parts.now) c.policies_later-changes.ensures.others
-
-pub returns-clause-pool : goal.returns-clause-pool
-returns-clause-pool g c = c.policies_later-changes.ensures.pool c.requires.lasts
 
 pub returns-then-count-eq0-clause-later : goal.returns-then-count-eq0-clause-later
 returns-then-count-eq0-clause-later g c = λ s es st.

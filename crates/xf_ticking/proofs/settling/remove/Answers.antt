@@ -9,6 +9,7 @@ use Rattle.xf_sadlist.specs.Listed.{with_states}
 use Rattle.xf_sad.specs.Slots.{PoolFits}
 use Rattle.xf_rows.specs.Layouts.{Fits}
 use Rattle.xf_policies.proofs.Others.{others_of, others_hidden, others_twice}
+use Rattle.xf_ticking.proofs.Ages.{out_less}
 use Rattle.xf_ticking.proofs.Places.{hidden_low, states_beside, same_states}
 use Rattle.xf_ticking.proofs.settling.remove.Given as given
 use Rattle.xf_ticking.proofs.settling.remove.Goals as goal
@@ -40,6 +41,12 @@ returns-clause-others g c =
 
 pub returns-clause-stands : goal.returns-clause-stands
 returns-clause-stands g c = λ s front back r st. leaves g c s front back r st
+
+pub returns-clause-out : goal.returns-clause-out
+returns-clause-out g c = λ was.
+    let h = c.requires.listed in
+    out_less c.args.layout.now.states (g.D.Cells.words c.args.parts.now) (g.D.Cells.words c.state_freed.new.self) c.args.slot (g.P.Pool.taken c.args.pool.now) (g.P.Pool.taken c.delete.new.pool) _
+    h (leaves g c h.shown h.front h.back h.state h.stands) (c.delete.ensures.out h.shown h.front h.back h.state h.stands) was
 
 pub returns-clause-pool : goal.returns-clause-pool
 returns-clause-pool g c = λ lasts fit.

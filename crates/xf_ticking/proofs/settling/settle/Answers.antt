@@ -1,4 +1,4 @@
-use Rattle.std.proofs.Common.{ℕ, List, ◌∷◌, ◌++◌, refl, sym, subst}
+use Rattle.std.proofs.Common.{ℕ, List, length, ◌∷◌, ◌++◌, refl, ap, sym, ◌∙◌, subst}
 use Rattle.xf_types.specs.declared.state.Sa.{Sa}
 use Rattle.xf_index.specs.Indexes.{records_in}
 use Rattle.xf_sadidx.specs.Layout.{end_of}
@@ -26,6 +26,9 @@ pub returns-in-Mark-clause-stands : goal.returns-in-Mark-clause-stands
 returns-in-Mark-clause-stands g c = λ s front back r st.
     subst (λ (d : Due). StatesStand c.args.layout.now.states (g.D.Cells.words c.mark.new.parts) (with_states s (records_in (front ++ (entry_by d (c.args.slot, r) ++ back)))) (front ++ (entry_by d (c.args.slot, r) ++ back)))
     (sym c.in-Mark.is) (c.mark.ensures.stands s front back r st)
+
+pub returns-in-Mark-clause-out : goal.returns-in-Mark-clause-out
+returns-in-Mark-clause-out g c = λ was. was ∙ ap (λ (slots : List ℕ). length slots) (sym c.mark.ensures.listed)
 
 pub returns-in-Mark-clause-pool : goal.returns-in-Mark-clause-pool
 returns-in-Mark-clause-pool g c = λ lasts fits.

@@ -1,4 +1,4 @@
-use Rattle.std.proofs.Common.{◌≡◌, ℕ, ◌+◌, List, ◌∷◌, ◌++◌, Option, length, refl, ap, sym, ◌∙◌, subst, arith}
+use Rattle.std.proofs.Common.{◌≡◌, ℕ, true, ◌+◌, List, ◌∷◌, ◌++◌, Option, length, refl, ap, sym, ◌∙◌, subst, arith}
 use Rattle.xf_types.specs.declared.call.Event.{Event}
 use Rattle.xf_sadimage.specs.States.{StatesStand}
 use Rattle.xf_local.specs.View.{event_of}
@@ -6,7 +6,7 @@ use Rattle.xf_rows.specs.Rows.{entries_in}
 use Rattle.xf_rows.specs.Values.{Beside, at}
 use Rattle.xf_rows.proofs.Later.{events_are}
 use Rattle.xf_ticking.specs.Walks.{Telling}
-use Rattle.xf_ticking.proofs.Tells.{telling_begins, telling_goes, telling_ends, telling_stops, count_more}
+use Rattle.xf_ticking.proofs.Tells.{turns_are, turn_told, telling_begins, telling_goes, telling_ends, telling_stops, count_more}
 use Rattle.xf_ticking.proofs.telling.state_event_count.Goals as goal
 
 pub slots-init : goal.slots-init
@@ -15,6 +15,7 @@ slots-init g c =
     record {
       size = first.ensures.size;
       begun = first.ensures.begun;
+      rest = first.ensures.rest;
       words = first.ensures.words;
       hidden = first.ensures.hidden;
       beside = first.ensures.beside;
@@ -22,8 +23,17 @@ slots-init g c =
       few = omega arith;
       telling = λ s es st.
           telling_begins c.args.layout.now.states (g.D.Cells.words c.args.parts.now) c.args.now (g.D.Parts.beside c.args.parts.now) s es first.result
-          (λ (xs : List Event). 0 ≡ length xs) st (first.ensures.answer s es st) refl;
+          (λ (xs : List Event). 0 ≡ length xs) st (turns_are c.args.layout.now (g.D.Cells.words c.args.parts.now) (g.D.Parts.beside c.args.parts.now) s es st c.requires.turns)
+          (first.ensures.answer s es st) refl;
     }
+
+pub event-event-requires-clause-held : goal.event-event-requires-clause-held
+event-event-requires-clause-held g c =
+    let k = c.slots.invariant in
+    let h = c.requires.stood in
+    let b : Beside = g.D.Parts.beside c.args.parts.now in
+    subst (λ (x : Beside). x.held c.in-Some.slot ≡ true) (sym k.beside)
+    (turn_told c.args.now b h.entries c.in-Some.slot c.slots.at c.slots.left (λ (xs : List Event). c.slots.count ≡ length xs) c.in-Some.is (k.telling h.shown h.entries h.stands))
 
 pub slots-preserved : goal.slots-preserved
 slots-preserved g c =
@@ -40,6 +50,7 @@ slots-preserved g c =
     record {
       size = next.ensures.size ∙ (heard.ensures.size ∙ k.size);
       begun = next.ensures.begun ∙ (heard.ensures.begun ∙ k.begun);
+      rest = next.ensures.rest ∙ (heard.ensures.rest ∙ k.rest);
       words = next.ensures.words ∙ w;
       hidden = next.ensures.hidden ∙ (heard.ensures.hidden ∙ k.hidden);
       beside = next.ensures.beside ∙ (heard.ensures.beside ∙ k.beside);
@@ -60,7 +71,8 @@ returns-in_default-clause-answer g c = λ m r.
     let b : Beside = g.D.Parts.beside c.args.parts.now in
     telling_stops c.args.now b (entries_in r.rows) c.slots.at c.slots.left (λ (xs : List Event). c.slots.count ≡ length xs) c.in_default.is
     (c.slots.invariant.telling m.shown (entries_in r.rows) r.on_states)
-    ∙ ap (λ (xs : List Event). length xs) (events_are c.args.layout.now (g.D.Cells.words c.args.parts.now) b m c.args.now r c.requires.turns)
+    ∙ ap (λ (xs : List Event). length xs) (events_are c.args.layout.now (g.D.Cells.words c.args.parts.now) b m c.args.now r
+    (turns_are c.args.layout.now (g.D.Cells.words c.args.parts.now) b m.shown (entries_in r.rows) r.on_states c.requires.turns))
 
 pub returns-clause-answer : goal.returns-clause-answer
 returns-clause-answer g c = λ m r.
@@ -68,7 +80,8 @@ returns-clause-answer g c = λ m r.
     let f = c.slots-test.false in
     telling_ends c.args.now b (entries_in r.rows) c.slots.at c.slots.left (λ (xs : List Event). c.slots.count ≡ length xs) (omega (arith, f))
     (c.slots.invariant.telling m.shown (entries_in r.rows) r.on_states)
-    ∙ ap (λ (xs : List Event). length xs) (events_are c.args.layout.now (g.D.Cells.words c.args.parts.now) b m c.args.now r c.requires.turns)
+    ∙ ap (λ (xs : List Event). length xs) (events_are c.args.layout.now (g.D.Cells.words c.args.parts.now) b m c.args.now r
+    (turns_are c.args.layout.now (g.D.Cells.words c.args.parts.now) b m.shown (entries_in r.rows) r.on_states c.requires.turns))
 
 pub returns-in_default-clause-counts : goal.returns-in_default-clause-counts
 returns-in_default-clause-counts g c = record {

@@ -11,6 +11,7 @@ abbrev pub invariant-slots : goal.invariant-slots
 invariant-slots g l = record {
   size : g.D.Load.size l.parts ≡ g.D.Load.size l.fn.parts;
   begun : g.D.Load.begun l.parts ≡ g.D.Load.begun l.fn.parts;
+  rest : g.D.Load.rest l.parts ≡ g.D.Load.rest l.fn.parts;
   words : g.D.Cells.words l.parts ≡ g.D.Cells.words l.fn.parts;
   hidden : g.D.Parts.hidden l.parts ≡ g.D.Parts.hidden l.fn.parts;
   beside : g.D.Parts.beside l.parts ≡ g.D.Parts.beside l.fn.parts;

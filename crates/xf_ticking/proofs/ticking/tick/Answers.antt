@@ -1,15 +1,28 @@
-use Rattle.std.proofs.Common.{◌≡◌, ℕ, true, List, sym, ◌∙◌, subst}
+use Rattle.std.proofs.Common.{◌≡◌, ℕ, List, sym, ◌∙◌, subst}
 use Rattle.xf_rows.specs.Values.{Beside}
-use Rattle.xf_ticking.proofs.Passed.{outside_none, stands_same, ticked}
+use Rattle.xf_ticking.proofs.Passed.{outside_none, states_stood_here, stands_same, ticked}
+use Rattle.xf_ticking.proofs.Tells.{turns_same}
 use Rattle.xf_ticking.proofs.ticking.tick.Goals as goal
 
 pub event_count-count-requires-clause-turns : goal.event_count-count-requires-clause-turns
-event_count-count-requires-clause-turns g c = λ slot.
-    subst (λ (b : Beside). b.held slot ≡ true) (sym c.time_here.ensures.beside) (c.requires.ready.turns slot)
+event_count-count-requires-clause-turns g c =
+    turns_same c.args.layout.now (g.D.Cells.words c.args.parts.now) (g.D.Cells.words c.time_here.new.parts) (g.D.Parts.beside c.args.parts.now) (g.D.Parts.beside c.time_here.new.parts)
+    c.time_here.ensures.words c.time_here.ensures.beside c.requires.ready.turns
+
+pub event_count-count-requires-clause-stood : goal.event_count-count-requires-clause-stood
+event_count-count-requires-clause-stood g c =
+    states_stood_here c.args.layout.now (g.D.Cells.words c.args.parts.now) (g.D.Cells.words c.time_here.new.parts) (g.D.Parts.beside c.args.parts.now) c.time_here.ensures.words c.requires.stands
 
 pub events_at-requires-clause-turns : goal.events_at-requires-clause-turns
-events_at-requires-clause-turns g c = λ slot.
-    subst (λ (b : Beside). b.held slot ≡ true) (sym (c.event_count-count.ensures.beside ∙ c.time_here.ensures.beside)) (c.requires.ready.turns slot)
+events_at-requires-clause-turns g c =
+    turns_same c.args.layout.now (g.D.Cells.words c.args.parts.now) (g.D.Cells.words c.event_count-count.new.parts) (g.D.Parts.beside c.args.parts.now)
+    (g.D.Parts.beside c.event_count-count.new.parts) (c.event_count-count.ensures.words ∙ c.time_here.ensures.words)
+    (c.event_count-count.ensures.beside ∙ c.time_here.ensures.beside) c.requires.ready.turns
+
+pub events_at-requires-clause-stood : goal.events_at-requires-clause-stood
+events_at-requires-clause-stood g c =
+    states_stood_here c.args.layout.now (g.D.Cells.words c.args.parts.now) (g.D.Cells.words c.event_count-count.new.parts) (g.D.Parts.beside c.args.parts.now)
+    (c.event_count-count.ensures.words ∙ c.time_here.ensures.words) c.requires.stands
 
 pub returns-in-Err-clause-outside : goal.returns-in-Err-clause-outside
 returns-in-Err-clause-outside g c =

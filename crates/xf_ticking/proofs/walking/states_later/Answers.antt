@@ -1,14 +1,16 @@
-use Rattle.std.proofs.Common.{◌≡◌, ℕ, List, ◌∷◌, ◌++◌, Option, refl, ap, sym, ◌∙◌, subst, arith}
+use Rattle.std.proofs.Common.{◌≡◌, ℕ, true, List, length, ◌∷◌, ◌++◌, Option, refl, ap, sym, ◌∙◌, subst, arith}
 use Rattle.xf_types.specs.declared.call.Event.{Event}
 use Rattle.xf_sadidx.specs.Layout.{end_of}
 use Rattle.xf_sadimage.specs.States.{StatesStand}
+use Rattle.xf_sad.specs.Slots.{listed_in}
 use Rattle.xf_local.specs.View.{event_of}
 use Rattle.xf_rows.specs.Values.{Beside, at}
 use Rattle.xf_policies.proofs.Others.{others_none, others_as, others_twice}
 use Rattle.xf_ticking.specs.Dues.{due_by}
 use Rattle.xf_ticking.specs.Ready.{FitsStates}
 use Rattle.xf_ticking.specs.Walks.{HasState, Aging}
-use Rattle.xf_ticking.proofs.Ages.{aging_begins, aging_goes, aging_ends, aging_stops, comes_here, takes_back}
+use Rattle.xf_ticking.proofs.Ages.{aging_begins, aging_goes, aging_ends, aging_stops, comes_here, turn_here, takes_back}
+use Rattle.xf_ticking.proofs.Tells.{turns_are}
 use Rattle.xf_ticking.proofs.walking.states_later.Goals as goal
 
 pub slots-init : goal.slots-init
@@ -28,9 +30,18 @@ slots-init g c =
       others = others_none (g.D.Parts.hidden c.args.parts.now) a.base (end_of a) (g.D.Cells.words c.args.parts.now) (g.D.Cells.words first.new.parts) first.ensures.words;
       aging = λ s es st.
           subst (λ (i : List ℕ). Aging a i c.args.now b s es first.result a.slots) (sym first.ensures.words)
-          (aging_begins a (g.D.Cells.words c.args.parts.now) c.args.now b s es first.result st (first.ensures.answer s es st));
-      pool = subst (λ (i : List ℕ). FitsStates layout i (g.P.Pool.capacity c.args.pool.now) (g.P.Pool.taken c.args.pool.now) (g.P.Pool.gives c.args.pool.now) (g.P.Pool.takes c.args.pool.now)) (sym first.ensures.words) c.requires.pool;
+          (aging_begins a (g.D.Cells.words c.args.parts.now) c.args.now b s es first.result st (turns_are layout (g.D.Cells.words c.args.parts.now) b s es st c.requires.turns)
+          (first.ensures.answer s es st));
+      out = c.requires.pool.taken ∙ ap (λ (i : List ℕ). length (listed_in a i)) (sym first.ensures.words);
+      pool = λ lasts. subst (λ (i : List ℕ). FitsStates layout i (g.P.Pool.capacity c.args.pool.now) (g.P.Pool.taken c.args.pool.now) (g.P.Pool.gives c.args.pool.now) (g.P.Pool.takes c.args.pool.now)) (sym first.ensures.words) c.requires.pool;
     }
+
+pub event-requires-clause-held : goal.event-requires-clause-held
+event-requires-clause-held g c =
+    let a = c.args.layout.now.states in
+    subst (λ (x : Beside). x.held c.in-Some.slot ≡ true) (sym c.slots.invariant.beside)
+    (turn_here a (g.D.Cells.words c.args.parts.now) (g.D.Cells.words c.slots.parts) c.args.now (g.D.Parts.beside c.args.parts.now) c.in-Some.slot c.slots.left c.slots.at
+    c.in-Some.is c.requires.stood c.slots.invariant.aging)
 
 pub settle-requires-clause-listed : goal.settle-requires-clause-listed
 settle-requires-clause-listed g c =
@@ -42,9 +53,10 @@ settle-requires-clause-listed g c =
 pub settle-requires-clause-back : goal.settle-requires-clause-back
 settle-requires-clause-back g c =
     let a = c.args.layout.now.states in
-    takes_back a (g.D.Cells.words c.slots.parts) c.in-Some.slot (g.P.Pool.capacity c.slots.pool) (g.P.Pool.taken c.slots.pool) (g.P.Pool.gives c.slots.pool) (g.P.Pool.takes c.slots.pool)
+    takes_back (g.P.Pool.lasts c.args.pool.now) g.P.Pool.taken g.P.Pool.takes c.slots.pool a (g.D.Cells.words c.slots.parts) (g.P.Pool.capacity c.slots.pool) (g.P.Pool.gives c.slots.pool)
+    c.in-Some.slot c.requires.back
     (comes_here a (g.D.Cells.words c.args.parts.now) (g.D.Cells.words c.slots.parts) c.args.now (g.D.Parts.beside c.args.parts.now) c.in-Some.slot c.slots.left c.slots.at
-    c.in-Some.is c.requires.stood c.slots.invariant.aging) c.slots.invariant.pool
+    c.in-Some.is c.requires.stood c.slots.invariant.aging) c.slots.invariant.pool c.slots.invariant.out
 
 pub slots-preserved : goal.slots-preserved
 slots-preserved g c =
@@ -78,8 +90,9 @@ slots-preserved g c =
           (subst (λ (x : List ℕ). StatesStand a x t (front ++ ((c.in-Some.slot, r) ∷ back))) (sym heard.ensures.words) there))
           (λ t front back r there. done.ensures.stands t front back r
           (subst (λ (x : List ℕ). StatesStand a x t (front ++ ((c.in-Some.slot, r) ∷ back))) (sym w) there));
-      pool = done.ensures.pool (k.lasts ∙ c.requires.lasts)
-          (subst (λ (x : List ℕ). FitsStates layout x (g.P.Pool.capacity c.slots.pool) (g.P.Pool.taken c.slots.pool) (g.P.Pool.gives c.slots.pool) (g.P.Pool.takes c.slots.pool)) (sym w) k.pool);
+      out = done.ensures.out (k.out ∙ ap (λ (x : List ℕ). length (listed_in a x)) (sym w));
+      pool = λ lasts. done.ensures.pool (k.lasts ∙ lasts)
+          (subst (λ (x : List ℕ). FitsStates layout x (g.P.Pool.capacity c.slots.pool) (g.P.Pool.taken c.slots.pool) (g.P.Pool.gives c.slots.pool) (g.P.Pool.takes c.slots.pool)) (sym w) (k.pool lasts));
     }
 
 pub returns-in_default-clause-later : goal.returns-in_default-clause-later

@@ -1,4 +1,4 @@
-use Rattle.std.proofs.Common.{◌≡◌, ℕ, ◌<◌, Bool, List, Some, length, refl, ap, sym, ◌∙◌, subst}
+use Rattle.std.proofs.Common.{◌≡◌, ℕ, ◌<◌, Bool, true, false, List, ◌∷◌, [], ◌++◌, None, Some, length, refl, ap, sym, ◌∙◌, subst}
 use Rattle.xf_types.specs.declared.call.Call.TheVariants as call
 use Rattle.xf_types.specs.declared.call.Reply.{Reply}
 use Rattle.xf_types.specs.declared.state.Sa.{Sa}
@@ -7,14 +7,20 @@ use Rattle.xf_types.specs.History.{is_contended}
 use Rattle.xf_types.specs.Moves.{is_moving}
 use Rattle.xf_image.specs.Frames.{Frame}
 use Rattle.xf_sadidx.specs.Layout.{end_of, record_at}
-use Rattle.xf_sad.specs.Changes.{new_state}
+use Rattle.xf_types.specs.Changes.{shown_after}
+use Rattle.xf_sadimage.specs.States.{StatesStand}
+use Rattle.xf_sad.specs.Changes.{new_state, entries_but}
+use Rattle.xf_sad.specs.declared.faults.SadFault.{SadFault}
+use Rattle.xf_sad.specs.declared.faults.SadFault.TheVariants.{Invalid, Exists, NoState, NoSpi, Full}
+use Rattle.xf_sad.specs.Replies.{IsRoomFault}
 use Rattle.xf_rows.specs.Layouts.{Fits}
 use Rattle.xf_rows.specs.Replies.{Answers}
 use Rattle.xf_rows.specs.Rows.{entries_in}
 use Rattle.xf_rows.specs.Values.{Beside, value_put}
 use Rattle.xf_statecalls.specs.Windows.{value_of_new}
 use Rattle.xf_statecalls.proofs.Others.{others_words, put_count, put_held}
-use Rattle.xf_traffic.proofs.Acquired.{comes_there, comes_larval, acquired_answers, refused_answers, fault_settled}
+use Rattle.xf_statecalls.proofs.Placed.{place_came, list_came, places_same}
+use Rattle.xf_traffic.proofs.Acquired.{acquires_sid, comes_there, comes_larval, acquired_answers, refused_answers, fault_settled}
 use Rattle.xf_traffic.proofs.Followed.{others_same}
 use Rattle.xf_traffic.proofs.acquiring.acquire.Given as given
 use Rattle.xf_traffic.proofs.acquiring.acquire.Goals as goal
@@ -121,3 +127,49 @@ returns-in-Ok-clause-answer g c = λ m flow st wanted.
     st fits c.acquire_words.ensures.frame wanted (c.in-Ok.ensures.comes m st) (c.requires.ready.below c.in-Ok.slot (c.in-Ok.ensures.comes m st).given)
     (λ state at. c.begin_larval.ensures.beside state at ∙ ap (λ (d : Beside). value_put d c.in-Ok.slot (value_of_new state)) c.acquire_words.ensures.beside)
     (λ state at. c.begin_larval.ensures.reply state at))
+
+-- ---- in which slots states stand
+
+still : (f : SadFault) → is_moving (Rattle.xf_sad.specs.Replies.fault_reply f) ≡ false
+still Invalid = refl
+still (Exists sid) = refl
+still NoState = refl
+still NoSpi = refl
+still (Full live waiting) = refl
+
+pub returns-in-Err-clause-given : goal.returns-in-Err-clause-given
+returns-in-Err-clause-given g c = λ moves.
+    let stays : is_moving c.fault_reply.result ≡ false = ap (λ (r : Reply). is_moving r) c.fault_reply.ensures ∙ still c.in-Err.fault in
+    absurd (cc)
+
+pub returns-in-Err-clause-places : goal.returns-in-Err-clause-places
+returns-in-Err-clause-places g c =
+    places_same c.args.layout.now (g.D.Cells.words c.args.parts.now) (g.D.Cells.words c.acquire_words.new.parts) (g.D.Parts.beside c.args.parts.now) c.requires.stands
+    (c.in-Err.ensures.refused refl)
+
+-- the words stand for the states with the new one
+stand : (g : given.Over) (c : goal.After-begin_larval g)
+    → StatesStand c.args.layout.now.states (g.D.Cells.words c.begin_larval.new.parts)
+    (shown_after c.requires.stands.machine.shown (acquired c.requires.stands.machine.shown c.args.wanted.now.policy c.args.wanted.now.template c.args.wanted.now.src c.args.wanted.now.dst).change)
+    (entries_but None (entries_in c.requires.stands.stands.rows) ++ ((c.in-Ok.slot, listed g c) ∷ []))
+stand g c =
+    let h = c.requires.stands in
+    let x = c.in-Ok.ensures.comes h.machine h.stands in
+    let w = c.args.wanted.now in
+    subst (λ (ws : List ℕ). StatesStand c.args.layout.now.states ws (shown_after h.machine.shown (acquired h.machine.shown w.policy w.template w.src w.dst).change)
+    (entries_but None (entries_in h.stands.rows) ++ ((c.in-Ok.slot, listed g c) ∷ []))) (sym c.begin_larval.ensures.words) x.stands
+
+pub returns-in-Ok-clause-places : goal.returns-in-Ok-clause-places
+returns-in-Ok-clause-places g c =
+    let h = c.requires.stands in
+    let w = c.args.wanted.now in
+    let x = c.in-Ok.ensures.comes h.machine h.stands in
+    place_came c.args.layout.now (g.D.Cells.words c.args.parts.now) (g.D.Cells.words c.begin_larval.new.parts) (g.D.Parts.beside c.args.parts.now) h.machine None c.in-Ok.slot _ (listed g c) h.stands
+    tt (c.requires.ready.turns c.in-Ok.slot x.given) (acquires_sid h.machine.shown w.policy w.template w.src w.dst x.shown x.leaves x.new x.change) (stand g c)
+
+pub returns-in-Ok-clause-given : goal.returns-in-Ok-clause-given
+returns-in-Ok-clause-given g c = λ moves.
+    let h = c.requires.stands in
+    let x = c.in-Ok.ensures.comes h.machine h.stands in
+    list_came c.args.layout.now (g.D.Cells.words c.args.parts.now) (g.D.Cells.words c.begin_larval.new.parts) (g.D.Parts.beside c.args.parts.now) h.machine (g.P.Pool.gives c.args.pool.now) None
+    c.in-Ok.slot _ (listed g c) h.stands x.given (stand g c)

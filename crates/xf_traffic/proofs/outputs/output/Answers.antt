@@ -1,6 +1,8 @@
-use Rattle.std.proofs.Common.{ℕ, List, ap, sym, ◌∙◌, subst}
+use Rattle.std.proofs.Common.{ℕ, List, ap, sym, ◌∙◌, subst, length}
+use Rattle.xf_sad.specs.Slots.{listed_in}
 use Rattle.xf_rows.specs.Stands.{Stands}
 use Rattle.xf_rows.specs.Values.{Beside}
+use Rattle.xf_statecalls.proofs.Placed.{places_as, places_same}
 use Rattle.xf_traffic.proofs.Followed.{output_missing, others_same}
 use Rattle.xf_traffic.proofs.outputs.output.Goals as goal
 
@@ -26,3 +28,15 @@ returns-in-Some-clause-answer g c = λ m st.
 
 pub output_held-requires-clause-held : goal.output_held-requires-clause-held
 output_held-requires-clause-held g c = ap (λ (b : Beside). b.held c.in-Some.slot) c.output_slot_here.ensures.beside ∙ c.requires.held c.in-Some.slot
+
+pub returns-in-None-clause-out : goal.returns-in-None-clause-out
+returns-in-None-clause-out g c = c.requires.pool.taken ∙ ap (λ (w : List ℕ). length (listed_in c.args.layout.now.states w)) (sym c.output_slot_here.ensures.words)
+
+pub returns-in-None-clause-places : goal.returns-in-None-clause-places
+returns-in-None-clause-places g c =
+    places_same c.args.layout.now (g.D.Cells.words c.args.parts.now) (g.D.Cells.words c.output_slot_here.new.parts) (g.D.Parts.beside c.args.parts.now) c.requires.stands c.output_slot_here.ensures.words
+
+pub returns-in-Some-clause-places : goal.returns-in-Some-clause-places
+returns-in-Some-clause-places g c =
+    places_as c.args.layout.now.states (g.D.Cells.words c.args.parts.now) (g.D.Cells.words c.output_slot_here.new.parts) (g.D.Cells.words c.output_held.new.parts)
+    (g.D.Parts.beside c.args.parts.now) (g.D.Parts.beside c.output_slot_here.new.parts) c.output_slot_here.ensures.words c.output_slot_here.ensures.beside c.output_held.ensures.places

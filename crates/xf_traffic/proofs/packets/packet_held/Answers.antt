@@ -14,6 +14,8 @@ use Rattle.xf_traffic.specs.Following.{Follows}
 use Rattle.xf_traffic.specs.Found.{HasState}
 use Rattle.xf_traffic.proofs.Listed.{latest_listed, at_latest, takes_back}
 use Rattle.xf_traffic.proofs.Followed.{packet_done, settled_ours, not_dead, others_followed, others_put}
+use Rattle.xf_statecalls.proofs.Placed.{places_same}
+use Rattle.xf_traffic.proofs.Placed.{Stayed, stayed}
 use Rattle.xf_traffic.proofs.packets.packet_held.Given as given
 use Rattle.xf_traffic.proofs.packets.packet_held.Goals as goal
 
@@ -87,3 +89,35 @@ returns-in-Dead-clause-answer g c = λ m st.
     absurd (not_dead b m st.rows test c.args.slot (last_of test m.shown.states) (Inward c.args.packet.now)
     (at_latest c.args.layout.now (g.D.Cells.words c.args.parts.now) b m test c.args.slot st c.requires.found) c.requires.held
     (inward_shown c.receive.result) (idle c.receive.result c.in-Dead.is) c.receive.ensures.settles.answer)
+
+-- other states stay where they are
+stays_there : (g : given.Over) (c : goal.After-follow g)
+    → Stayed c.args.layout.now (g.D.Parts.beside c.args.parts.now) c.args.slot (says_ended c.in-Answer.reply) (g.D.Cells.words c.args.parts.now) (g.D.Cells.words c.follow.new.parts)
+stays_there g c =
+    let h = c.requires.stands in
+    let i = g.D.Cells.words c.args.parts.now in
+    let b = g.D.Parts.beside c.args.parts.now in
+    let test = has_id (id_of_packet c.args.packet.now) in
+    stayed c.args.layout.now i (g.D.Cells.words c.receive.new.self) (g.D.Cells.words c.follow.new.parts) b h test c.args.slot (g.D.Parts.hidden c.args.parts.now) (last_of test h.machine.shown.states)
+    (says_ended c.in-Answer.reply) (says_soft c.in-Answer.reply) (at_latest c.args.layout.now i b h.machine test c.args.slot h.stands c.requires.found)
+    (fits g c) c.requires.behind c.requires.held c.receive.ensures.words (follows g c)
+
+pub returns-in-Answer-clause-places : goal.returns-in-Answer-clause-places
+returns-in-Answer-clause-places g c = let s = stays_there g c in s.places
+
+pub returns-in-Answer-clause-list : goal.returns-in-Answer-clause-list
+returns-in-Answer-clause-list g c = let s = stays_there g c in s.list
+
+pub returns-in-Answer-clause-out : goal.returns-in-Answer-clause-out
+returns-in-Answer-clause-out g c =
+    c.follow.ensures.out (c.requires.pool.taken ∙ ap (λ (w : List ℕ). length (listed_in c.args.layout.now.states w)) (sym c.receive.ensures.words))
+
+pub returns-in-Dead-clause-places : goal.returns-in-Dead-clause-places
+returns-in-Dead-clause-places g c =
+    places_same c.args.layout.now (g.D.Cells.words c.args.parts.now) (g.D.Cells.words c.receive.new.self) (g.D.Parts.beside c.args.parts.now) c.requires.stands c.receive.ensures.words
+
+pub returns-in-Dead-clause-list : goal.returns-in-Dead-clause-list
+returns-in-Dead-clause-list g c = ap (λ (w : List ℕ). listed_in c.args.layout.now.states w) c.receive.ensures.words
+
+pub returns-in-Dead-clause-out : goal.returns-in-Dead-clause-out
+returns-in-Dead-clause-out g c = c.requires.pool.taken ∙ ap (λ (w : List ℕ). length (listed_in c.args.layout.now.states w)) (sym c.receive.ensures.words)

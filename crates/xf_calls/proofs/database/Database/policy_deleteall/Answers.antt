@@ -3,7 +3,7 @@ use Rattle.xf_types.specs.declared.call.Call.TheVariants.{PolicyDeleteAll}
 use Rattle.xf_types.specs.PolicyList.{policy_meets}
 use Rattle.xf_types.specs.PolicyRules.{policy_deleteall}
 use Rattle.xf_parts.specs.Held.{all_held}
-use Rattle.xf_policies.specs.Standing.{Lasts}
+use Rattle.xf_cells.specs.Backs.{Lasts}
 use Rattle.xf_calls.proofs.Changed.{policies_answer, policies_step}
 use Rattle.xf_calls.proofs.Rules.{only_removed}
 use Rattle.xf_calls.proofs.Wholes.{stands_now, policies_stood, frame_of, after_policies}

@@ -3,7 +3,7 @@ use Rattle.xf_types.specs.declared.call.Call.TheVariants.{PolicyFlush}
 use Rattle.xf_types.specs.Same.{meets_one, same_ptype}
 use Rattle.xf_types.specs.PolicyRules.{policy_flush}
 use Rattle.xf_parts.specs.Held.{all_held}
-use Rattle.xf_policies.specs.Standing.{Lasts}
+use Rattle.xf_cells.specs.Backs.{Lasts}
 use Rattle.xf_calls.proofs.Changed.{policies_answer, policies_step}
 use Rattle.xf_calls.proofs.Rules.{only_removed}
 use Rattle.xf_calls.proofs.Wholes.{stands_now, policies_stood, frame_of, after_policies}

@@ -41,3 +41,7 @@ returns-in_default-clause-stands g c = λ s front back r st.
 pub returns-in_default-clause-pool : goal.returns-in_default-clause-pool
 returns-in_default-clause-pool g c = λ s front back r lasts st fits.
     absurd (found_some c.args.self.now.area (g.C.Cells.words c.args.c.now) s c.args.slot front back r c.state_here.result c.state_here.ensures.answer c.in_default.is st)
+
+pub returns-in_default-clause-out : goal.returns-in_default-clause-out
+returns-in_default-clause-out g c = λ s front back r st.
+    absurd (found_some c.args.self.now.area (g.C.Cells.words c.args.c.now) s c.args.slot front back r c.state_here.result c.state_here.ensures.answer c.in_default.is st)

@@ -1,5 +1,6 @@
-use Rattle.std.proofs.Common.{◌≡◌, ℕ, List, ◌∷◌, ◌++◌, None, Some, Ok, ap, sym, ◌∙◌, subst}
+use Rattle.std.proofs.Common.{◌≡◌, ℕ, List, ◌∷◌, ◌++◌, Option, None, Some, Ok, ap, sym, ◌∙◌, subst, ◌⊎◌, inl, inr}
 use Rattle.std.specs.Prelude.{IfOk}
+use Rattle.std.proofs.lemmas.Result.{IfOk-weaker}
 use Rattle.xf_types.specs.declared.state.Sa.{Sa}
 use Rattle.xf_types.specs.declared.state.SaId.{SaId}
 use Rattle.xf_types.specs.Changes.{Answer, shown_after}
@@ -100,3 +101,15 @@ returns-in-Some-clause-pool g c = λ s es lasts at st fits.
     let is : IsEntry es c.in-Some.slot p.state = latest_entry (has_id (id_of spec)) es c.in-Some.slot p.state p.is in
     c.update_in.ensures.pool s is.front is.behind p.state lasts at
     (subst (λ (xs : List (ℕ × Sa)). StatesStand a (g.C.Cells.words c.named_here.new.c) s xs) is.whole (still g c s es st)) (fits_still g c fits)
+
+named_or : (gives : ℕ → Type 0) (named : Option ℕ) (slot new : ℕ) → named ≡ Some slot → gives new ⊎ (new ≡ slot) → gives new ⊎ (named ≡ Some new)
+named_or gives named slot new e (inl h) = inl h
+named_or gives named slot new e (inr h) = inr (e ∙ ap (λ (n : ℕ). Some n) (sym h))
+
+pub returns-in-Some-clause-given : goal.returns-in-Some-clause-given
+returns-in-Some-clause-given g c =
+    let named : Option ℕ = named_in c.args.self.now.area (g.C.Cells.words c.args.c.now) (id_of c.args.spec.now) in
+    let is : named ≡ Some c.in-Some.slot =
+    ap (λ (id : SaId). named_in c.args.self.now.area (g.C.Cells.words c.args.c.now) id) (sym c.id_of-id.ensures) ∙ sym c.named_here.ensures.answer ∙ c.in-Some.is in
+    IfOk-weaker c.update_in.result (λ new. g.P.Pool.gives c.args.pool.now new ⊎ (new ≡ c.in-Some.slot)) (λ new. g.P.Pool.gives c.args.pool.now new ⊎ (named ≡ Some new))
+    (λ new h. named_or (g.P.Pool.gives c.args.pool.now) named c.in-Some.slot new is h) c.update_in.ensures.given

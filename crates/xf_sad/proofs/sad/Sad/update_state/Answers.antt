@@ -1,4 +1,4 @@
-use Rattle.std.proofs.Common.{◌≡◌, ℕ, ◌<◌, false, List, ◌∷◌, ◌++◌, Option, Some, length, refl, ap, sym, ◌∙◌, subst, AllPairs}
+use Rattle.std.proofs.Common.{◌≡◌, ℕ, ◌<◌, false, List, ◌∷◌, ◌++◌, Option, Some, length, refl, ap, sym, ◌∙◌, subst, AllPairs, ◌⊎◌, inl, inr}
 use Rattle.std.specs.Option.{option_map}
 use Rattle.std.proofs.lemmas.Result.{IfOk-weaker, IfErr-weaker}
 use Rattle.xf_types.specs.declared.call.Reply.TheVariants as reply
@@ -76,7 +76,14 @@ returns-then-old-clause-pool g c = λ s front back lasts at st fits.
 pub returns-then-old-clause-fault : goal.returns-then-old-clause-fault
 returns-then-old-clause-fault g c = IfErr-weaker c.place.result IsRoomFault IsUpdateFault room_update c.place.ensures.fault
 
+pub returns-then-old-clause-given : goal.returns-then-old-clause-given
+returns-then-old-clause-given g c =
+    IfOk-weaker c.place.result (λ slot. g.P.Pool.gives c.args.pool.now slot) (λ new. g.P.Pool.gives c.args.pool.now new ⊎ (new ≡ c.args.slot)) (λ new h. inl h) c.place.ensures.given
+
 -- ---- one in use
+
+pub returns-clause-given : goal.returns-clause-given
+returns-clause-given g c = inr refl
 
 fresh_is : (g : given.Over) (c : goal.After-rewrite g) → c.refreshed-fresh.result ≡ refreshed_record c.args.spec.now c.args.old.now
 fresh_is g c = c.refreshed-fresh.ensures

@@ -1,13 +1,15 @@
-use Rattle.std.proofs.Common.{◌≡◌, ℕ, List, Some, ap, sym, ◌∙◌, subst}
+use Rattle.std.proofs.Common.{◌≡◌, ℕ, List, Some, ap, sym, ◌∙◌, subst, inl, inr}
 use Rattle.xf_asked.proofs.FieldLaws.{larval_is}
 use Rattle.xf_sadidx.specs.Layout.{record_at, record_place}
 use Rattle.xf_sadimage.specs.States.{StatesStand}
+use Rattle.xf_sad.specs.Places.{SlotCame}
 use Rattle.xf_sad.specs.Slots.{PoolFits, listed_in}
 use Rattle.xf_rows.specs.Values.{Beside}
 use Rattle.xf_statecalls.specs.Ready.{Stood}
 use Rattle.xf_statecalls.proofs.Others.{others_as}
+use Rattle.xf_statecalls.proofs.Placed.{places_as}
 use Rattle.xf_statecalls.proofs.Replied.{stands_same}
-use Rattle.xf_statecalls.proofs.updating.update_at.Goals as goal
+use Rattle.xf_statecalls.proofs.updating.state_update_at.Goals as goal
 
 pub update_larval-requires-clause-larval : goal.update_larval-requires-clause-larval
 update_larval-requires-clause-larval g c = λ r is.
@@ -73,3 +75,22 @@ pub returns-clause-pool : goal.returns-clause-pool
 returns-clause-pool g c = λ lasts.
     subst (λ (xs : List ℕ). PoolFits (g.P.Pool.capacity c.args.pool.now) (g.P.Pool.taken c.args.pool.now) (g.P.Pool.gives c.args.pool.now) (g.P.Pool.takes c.args.pool.now) c.args.layout.now.states.slots xs)
     (sym (c.state_refresh_ready.ensures.slots ∙ ap (λ (i : List ℕ). listed_in c.args.layout.now.states i) c.larval_here-larval.ensures.words)) c.requires.pool
+
+pub returns-then-larval-clause-given : goal.returns-then-larval-clause-given
+returns-then-larval-clause-given g c = λ done.
+    inl (subst (λ (w : List ℕ). SlotCame (g.P.Pool.gives c.args.pool.now) (Some c.args.slot) (listed_in c.args.layout.now.states w) (listed_in c.args.layout.now.states (g.D.Cells.words c.update_larval.new.parts)))
+    c.larval_here-larval.ensures.words (c.update_larval.ensures.given done))
+
+pub returns-then-larval-clause-places : goal.returns-then-larval-clause-places
+returns-then-larval-clause-places g c =
+    places_as c.args.layout.now.states (g.D.Cells.words c.args.parts.now) (g.D.Cells.words c.larval_here-larval.new.parts) (g.D.Cells.words c.update_larval.new.parts)
+    (g.D.Parts.beside c.args.parts.now) (g.D.Parts.beside c.larval_here-larval.new.parts) c.larval_here-larval.ensures.words c.larval_here-larval.ensures.beside c.update_larval.ensures.places
+
+pub returns-clause-given : goal.returns-clause-given
+returns-clause-given g c = λ done.
+    inr (c.state_refresh_ready.ensures.slots ∙ ap (λ (w : List ℕ). listed_in c.args.layout.now.states w) c.larval_here-larval.ensures.words)
+
+pub returns-clause-places : goal.returns-clause-places
+returns-clause-places g c =
+    places_as c.args.layout.now.states (g.D.Cells.words c.args.parts.now) (g.D.Cells.words c.larval_here-larval.new.parts) (g.D.Cells.words c.state_refresh_ready.new.parts)
+    (g.D.Parts.beside c.args.parts.now) (g.D.Parts.beside c.larval_here-larval.new.parts) c.larval_here-larval.ensures.words c.larval_here-larval.ensures.beside c.state_refresh_ready.ensures.places
