@@ -1,0 +1,15 @@
+use Rattle.std.proofs.Common.{rules, refl, true, ◌≤◌, Option, subst, sym}
+use Rattle.std.specs.Prelude.{vec_capacity}
+use Rattle.atomic_table.specs.Table.{Me}
+use Rattle.xf_views.specs.declared.view.View.{View}
+use Rattle.xf_seats.specs.Opened.{slots_of}
+use Rattle.xf_live.proofs.Held.{drawn_held}
+use Rattle.xf_live.proofs.live.Live.draw_moving.Goals as goal
+
+pub invariant_of-pass-inside : goal.invariant_of-pass-inside
+invariant_of-pass-inside g c =
+    let e = c.draw_moving-number.ensures.row in
+    let q = c.pass.inside in
+    let holdings = drawn_held c.draw_moving-number.new.place.me q.seat.me.0 q.seat.me.1 q.held.items true _ _ _ (λ t. refl) e.3.1 q.holdings in
+    let space = subst (λ (m : Me (Option g.row.T.Denot) View). slots_of m.0.life.start ≤ vec_capacity q.held) (sym e.3.1) q.space in
+    (search rules, (search rules, (search rules, (search rules, (holdings, (space, tt))))))

@@ -1,0 +1,4 @@
+pub mod Values
+pub mod Passes
+pub mod Calls
+pub mod Ends
