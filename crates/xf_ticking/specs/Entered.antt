@@ -1,5 +1,5 @@
 -- What taking turns makes of those that are held.
-use Rattle.std.specs.Prelude.{◌≡◌, ℕ, ◌||◌, Bool, true, List, length}
+use Rattle.std.specs.Prelude.{◌≡◌, ℕ, ◌||◌, true, List, length}
 use Rattle.xf_sad.specs.Slots.{is_in}
 use Rattle.xf_rows.specs.Values.{Beside, at}
 

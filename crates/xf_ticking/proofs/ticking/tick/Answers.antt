@@ -1,4 +1,4 @@
-use Rattle.std.proofs.Common.{◌≡◌, ℕ, List, sym, ◌∙◌, subst}
+use Rattle.std.proofs.Common.{◌≡◌, ℕ, List, ◌∙◌}
 use Rattle.xf_rows.specs.Values.{Beside}
 use Rattle.xf_ticking.proofs.Passed.{outside_none, states_stood_here, stands_same, ticked}
 use Rattle.xf_ticking.proofs.Tells.{turns_same}
