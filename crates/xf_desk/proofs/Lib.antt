@@ -1,0 +1,7 @@
+mod Scanning
+mod Values
+mod Homes
+mod Besides
+mod Takes
+pub mod Marked
+pub mod MarkLaws

@@ -1,0 +1,6 @@
+pub mod Nothing
+pub mod Values
+pub mod Lending
+pub mod Pools
+pub mod Marks
+pub mod MarkLaws
