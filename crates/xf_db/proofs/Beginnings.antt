@@ -82,9 +82,10 @@ fresh_from : (l : live.LiveView) (n : ℕ) (ps : List (live.PassView StateValue)
     → ((k : ℕ) (p : live.PassView StateValue) → get_elem? ps k ≡ some p → IsNew l (n + k) p) → AreFresh (database_over l) n (map pass_over ps)
 fresh_from l n [] each = tt
 fresh_from l n (p ∷ ps) each =
-    let here : n + zero ≡ n = omega arith in
-    (new_fresh l n p (subst (λ (m : ℕ). IsNew l m p) here (each zero p refl)),
-    fresh_from l (n + 1) ps (λ k q h. let next : n + suc k ≡ n + 1 + k = omega arith in subst (λ (m : ℕ). IsNew l m q) next (each (suc k) q h)))
+    let here : n + zero ≡ n = omega arith in (
+      new_fresh l n p (subst (λ (m : ℕ). IsNew l m p) here (each zero p refl)),
+      fresh_from l (n + 1) ps (λ k q h. let next : n + suc k ≡ n + 1 + k = omega arith in subst (λ (m : ℕ). IsNew l m q) next (each (suc k) q h)),
+    )
 
 pub all_fresh : (l : live.LiveView) (ps : List (live.PassView StateValue)) → AreNew l ps → AreFresh (database_over l) 0 (map pass_over ps)
 all_fresh l ps new =

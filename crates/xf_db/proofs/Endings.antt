@@ -57,7 +57,7 @@ pub all_done : (l : live.LiveView) (d : DatabaseView) (passes : List PassView) (
     → AreAll d passes → All IsResting ps → AreDone l ps
 all_done l d passes ps over same all rest =
     let mine : AreAll (database_over l) (map pass_over ps) =
-          subst (λ (x : DatabaseView). AreAll x (map pass_over ps)) (sym over) (subst (λ (xs : List PassView). AreAll d xs) (sym same) all) in
+    subst (λ (x : DatabaseView). AreAll x (map pass_over ps)) (sym over) (subst (λ (xs : List PassView). AreAll d xs) (sym same) all) in
     record {
       count = sym (length-map ps pass_over) ∙ mine.all;
       each = λ k p h. let e : 0 + k ≡ k = omega arith in subst (λ (m : ℕ). IsDone l m p) e (numbered_done l 0 ps mine.numbered rest k p h);
@@ -143,9 +143,9 @@ module _ (p s : ℕ) (start : Start) (words : List ℕ) (values : List StateValu
       let few : length (moves_of e.history) ≤ length e.history = few_moves e.history in
       let at : Told = told (image_of start).machine.shown (image_of start).ids in
       let ids : AreIdsWithin (most + length e.history) left_image.ids =
-            subst (λ ids. AreIdsWithin (most + length e.history) ids) (sym left_ids)
-            (ids_raised (most + length (moves_of e.history)) (most + length e.history) (told_after_moves bucket_of at (moves_of e.history)).ids (omega (arith, few))
-                (ids_after_all bucket_of most at (moves_of e.history) (record { of_policies = w.of_policies; of_buckets = w.of_buckets }))) in
+      subst (λ ids. AreIdsWithin (most + length e.history) ids) (sym left_ids)
+      (ids_raised (most + length (moves_of e.history)) (most + length e.history) (told_after_moves bucket_of at (moves_of e.history)).ids (omega (arith, few))
+      (ids_after_all bucket_of most at (moves_of e.history) (record { of_policies = w.of_policies; of_buckets = w.of_buckets }))) in
       within_from little.numbers little.sids ids
     where
       within_from : (machine_of (image_of start).machine e.history).shown.next_number ≤ (image_of start).machine.shown.next_number + length e.history
@@ -163,13 +163,13 @@ module _ (p s : ℕ) (start : Start) (words : List ℕ) (values : List StateValu
       → end ≡ left_image → Closes (image_of start) passes merged end
   closes passes merged end are all increasing is =
       let same : merged ≡ e.history =
-            merged_is_history e.history merged e.legal.in_order increasing
-            (IsPermutation-trans merged (joined parts) e.history (IsPermutation-sym (joined parts) merged all) (parts_are_all e.history parts e.are_parts)) in
+      merged_is_history e.history merged e.legal.in_order increasing
+      (IsPermutation-trans merged (joined parts) e.history (IsPermutation-sym (joined parts) merged all) (parts_are_all e.history parts e.are_parts)) in
       subst (λ (h : List Receipt). Closes (image_of start) passes h end) (sym same)
       (subst (λ (i : ImageView). Closes (image_of start) passes e.history i) (sym is) (at_end passes are (
-        let a : length merged ≡ length (joined parts) = length_permutation (joined parts) merged all in
-        let b : length merged ≡ length e.history = ap (λ (h : List Receipt). length h) same in
-        sym b ∙ a)))
+      let a : length merged ≡ length (joined parts) = length_permutation (joined parts) merged all in
+      let b : length merged ≡ length e.history = ap (λ (h : List Receipt). length h) same in
+      sym b ∙ a)))
     where
       at_end : (passes : List PassView) → parts ≡ receipts_of_all passes → length e.history ≡ length (joined parts) → Closes (image_of start) passes e.history left_image
       at_end passes are count = record {

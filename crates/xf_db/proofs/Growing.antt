@@ -52,7 +52,7 @@ module _ (bucket_of : Sa → ℕ) where
       let a : id ≤ most = All-head (λ (x : ℕ). x ≤ most) id ids all in
       let b : (if list_any (λ x. bucket_of x == bucket) (states_changed s r) then 1 else 0) + 0 ≤ 1 = one_at_most (list_any (λ x. bucket_of x == bucket) (states_changed s r)) in
       All-cons (λ (x : ℕ). x ≤ most + 1) _ (bucket_ids_after bucket_of s (r ∷ []) (bucket + 1) ids) (omega (arith, a, b))
-          (buckets_after most s r (bucket + 1) ids (All-tail (λ (x : ℕ). x ≤ most) id ids all))
+      (buckets_after most s r (bucket + 1) ids (All-tail (λ (x : ℕ). x ≤ most) id ids all))
 
   ids_after_one : (most : ℕ) (s : Shown) (ids : ChangeIds) (r : Receipt) → AreIdsWithin most ids → AreIdsWithin (most + 1) (ids_after bucket_of s ids (r ∷ []))
   ids_after_one most s ids r w = record {

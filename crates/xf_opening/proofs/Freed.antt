@@ -66,11 +66,12 @@ module _ (p s : ℕ) (old new : List ℕ) (freed : AreFreed (p + s) old new) whe
     where
       marked : Bool
       marked = is_marked p s old slot
+
       there : state_there p s new slot ≡ state_there p s old slot
       there =
           ap (λ (t : ℕ). option_map (λ (x : Sa). (x, t)) (states.record_at (states_of p s) new (slot - p))) (freed.behind (layout_of p s).clock (omega arith))
           ∙ ap (λ (o : Option Sa). option_map (λ (x : Sa). (x, slice_index old (layout_of p s).clock)) o)
-              (state_frame old new (states.record_place (states_of p s) (slot - p)) (λ q low high. freed.behind q (omega (arith, low))))
+          (state_frame old new (states.record_place (states_of p s) (slot - p)) (λ q low high. freed.behind q (omega (arith, low))))
 
   home_stays : (m : Machine) (homes : List Standing) → AreHome p s old m homes → AreHome p s new m homes
   home_stays m homes h = record {

@@ -30,7 +30,7 @@ ids_are p s words ids are size =
     let l : length (drop from words) ≡ length words - from = length-drop from words in
     let same : length (drop from words) ≡ length ids.of_buckets = omega (arith, l, size, are.count) in
     let each : (i : ℕ) → i < length (drop from words) → get_or (drop from words) i 0 ≡ get_or ids.of_buckets i 0
-          = λ i below. get_or-drop from words i 0 ∙ are.of_buckets i (omega (arith, below, l, size)) in
+    = λ i below. get_or-drop from words i 0 ∙ are.of_buckets i (omega (arith, below, l, size)) in
     let all : drop from words ≡ ids.of_buckets = ext_get_or 0 (drop from words) ids.of_buckets same each in
     λ i. record { of_policies = are.of_policies i; of_buckets = all i }
 
@@ -90,7 +90,8 @@ zeros_rest p s homes sizes are = record {
   stands = record {
     machine = empty-is p s sizes.most_policies sizes.most_states;
     good = zeros_good p s;
-    home = record { count = ap (λ (h : List Standing). length h) are ∙ length-replicate (p + s) Nothing; 
+    home = record {
+      count = ap (λ (h : List Standing). length h) are ∙ length-replicate (p + s) Nothing;
       each = λ slot below.
           ap (λ (h : List Standing). get_elem? h slot) are ∙ replicate_at Nothing (p + s) slot below
           ∙ ap (λ o. some (standing_of (option_map (with_own (empty p s)) o))) (sym (zeros_list p s (size_of p s) slot));
@@ -104,4 +105,4 @@ pub empty_rests : (p s : ℕ) (words : List ℕ) (homes : List Standing) (layout
 empty_rests p s words homes layout sizes places are dead =
     let count : layout.clock + 66 ≡ size_of p s = ap (λ (l : Layout). l.clock + 66) places ∙ omega arith in
     subst (λ (ws : List ℕ). IsAtRest p s ws homes (record { machine = empty p s; ids = first_ids }))
-        (sym (are ∙ ap (λ (n : ℕ). zeros n) count)) (zeros_rest p s homes sizes dead)
+    (sym (are ∙ ap (λ (n : ℕ). zeros n) count)) (zeros_rest p s homes sizes dead)

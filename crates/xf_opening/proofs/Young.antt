@@ -19,12 +19,14 @@ young_is p s words homes = (there, back)
       of_policies = y.2;
       of_buckets = y.3;
     }
+
     back : IsYoung (image_in p s words homes) → HasYoung (layout_of p s) words
-    back y =
-        (let a : slice_index words ((layout_of p s).policies.base + 1) + 1 ≤ 2 ^ 62 = y.numbers in omega (arith, a),
-        let a : slice_index words ((layout_of p s).states.base + 1) + 1 ≤ 2 ^ 62 = y.sids in omega (arith, a),
-        y.of_policies,
-        y.of_buckets)
+    back y = (
+      let a : slice_index words ((layout_of p s).policies.base + 1) + 1 ≤ 2 ^ 62 = y.numbers in omega (arith, a),
+      let a : slice_index words ((layout_of p s).states.base + 1) + 1 ≤ 2 ^ 62 = y.sids in omega (arith, a),
+      y.of_policies,
+      y.of_buckets,
+    )
 
 -- of an image that is read at the places of its layout
 pub read_young : (p s : ℕ) (words read : List ℕ) (homes : List Standing) (layout : Layout) (i : ImageView) → layout ≡ layout_of p s → read ≡ words

@@ -8,10 +8,10 @@ invariant_of-result c =
     let left = c.requires.left in
     told_rests c.args.sizes.policies c.args.sizes.states c.free_retired.new.words.items (homes_of c.args.values.items) left.0
     (freed_rests c.args.sizes.policies c.args.sizes.states c.args.words.items c.free_retired.new.words.items (homes_of c.args.values.items) left.0
-        c.requires.sizes c.free_retired.ensures left.1)
+    c.requires.sizes c.free_retired.ensures left.1)
 
 pub returns : goal.returns
 returns c = λ i stands.
     let rest = freed_rests c.args.sizes.policies c.args.sizes.states c.args.words.items c.free_retired.new.words.items (homes_of c.args.values.items) i
-        c.requires.sizes c.free_retired.ensures stands in
+    c.requires.sizes c.free_retired.ensures stands in
     image_is c.args.sizes.policies c.args.sizes.states c.free_retired.new.words.items (homes_of c.args.values.items) i rest.stands
