@@ -5,3 +5,4 @@ mod Besides
 mod Takes
 pub mod Marked
 pub mod MarkLaws
+pub mod TurnLaws

@@ -4,3 +4,5 @@ pub mod Lending
 pub mod Pools
 pub mod Marks
 pub mod MarkLaws
+pub mod Turns
+pub mod TurnLaws

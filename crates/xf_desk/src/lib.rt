@@ -3,12 +3,14 @@
 
 mod asking;
 mod desk;
+mod holding;
 mod laws;
 mod lent;
 mod pools;
 
 pub use asking::{policy_pool, state_pool};
 pub use desk::Desk;
-pub use laws::marks;
+pub use holding::hold_slot;
+pub use laws::{marks, turns};
 pub use lent::{From, lend};
 pub use pools::{LISTED, free_slot, full_pool};
