@@ -2,7 +2,7 @@
 use Rattle.std.proofs.Common.{◌≡◌, ℕ, zero, suc, ◌+◌, ◌<◌, ◌≤◌, take, get_or, List, [], ◌∷◌, ◌++◌, All, length, map, refl, sym, ap, ◌∙◌, subst, arith, length-append}
 use Rattle.std.specs.Prelude.{IsPermutation}
 use Rattle.std.proofs.lemmas.List.{length-map}
-use Rattle.std.proofs.lemmas.List.Elements.{All-head, All-tail}
+use Rattle.std.proofs.lemmas.List.Elements.{All-nil, All-cons, All-head, All-tail}
 use Rattle.std.proofs.lemmas.List.Sorted.{IsPermutation-sym, IsPermutation-trans, length_permutation}
 use Rattle.std.specs.Global.{Global}
 use Rattle.std.specs.declared.vec.Vec.{Vec}
@@ -15,7 +15,8 @@ use Rattle.xf_hist.specs.Merged.{all_of}
 use Rattle.xf_values.specs.declared.state_value.StateValue.{StateValue}
 use Rattle.xf_views.specs.declared.view.Start.{Start}
 use Rattle.xf_invariant.specs.Meaning.{Told, told, told_after_moves}
-use Rattle.xf_seats.specs.Ends.{AreParts}
+use Rattle.xf_types.specs.Batch.{receipts_of}
+use Rattle.xf_seats.specs.Ends.{AreParts, of_worker}
 use Rattle.xf_seats.proofs.Merged.{parts_are_all, merged_is_history}
 use Rattle.xf_meaning.specs.Marks.{bucket_of}
 use Rattle.xf_meaning.specs.Good.{Good}
@@ -29,7 +30,7 @@ use Rattle.xf_live.specs.Ends.{IsDone, AreDone, lists_in, receipts_of_all as lis
 use Rattle.xf_db.specs.Passes.{DatabaseView, PassView, IsStart, IsResting, image_of, database_over, pass_over}
 use Rattle.xf_db.specs.Closing.{AreNumbered, AreAll, Closes, total, receipts_of_all}
 use Rattle.xf_db.proofs.Beginnings.{standing}
-use Rattle.xf_db.proofs.Growing.{AreIdsWithin, history_little, ids_after_all, ids_raised, few_moves}
+use Rattle.xf_table.proofs.Growing.{AreIdsWithin, history_little, ids_after_all, ids_raised, few_moves}
 
 -- ---- the passes are done
 
@@ -101,6 +102,27 @@ module _ (passes : List PassView) (ps : List (live.PassView StateValue)) (same :
   pub lists_are : lists_of_all ps ≡ receipts_of_all passes
   lists_are = sym gives ∙ parts_are
 
+-- each pass's are its part of the history
+parts_each : (d : DatabaseView) (n : ℕ) (passes : List PassView) (history : List Receipt) → AreNumbered d n passes
+    → ((k : ℕ) (l : List Receipt) → get_elem? (receipts_of_all passes) k ≡ some l → l ≡ of_worker (n + k) history)
+    → All (λ (p : PassView). receipts_of p.number history ≡ p.receipts) passes
+parts_each d n [] history numbered each = All-nil (λ (p : PassView). receipts_of p.number history ≡ p.receipts)
+parts_each d n (p ∷ ps) history numbered each =
+    let is : n + zero ≡ p.number = (let e : p.number ≡ n = numbered.1 in omega (arith, e)) in
+    All-cons (λ (q : PassView). receipts_of q.number history ≡ q.receipts) p ps
+    (sym (each zero p.receipts refl ∙ ap (λ (k : ℕ). of_worker k history) is))
+    (parts_each d (n + 1) ps history numbered.2
+    (λ k l h. let e : n + suc k ≡ n + 1 + k = omega arith in each (suc k) l h ∙ ap (λ (m : ℕ). of_worker m history) e))
+
+parts_of_each : (d : DatabaseView) (passes : List PassView) (history : List Receipt) → AreAll d passes → AreParts history (receipts_of_all passes)
+    → All (λ (p : PassView). receipts_of p.number history ≡ p.receipts) passes
+parts_of_each d passes history all parts =
+    parts_each d 0 passes history all.numbered (λ k l h. let e : k ≡ 0 + k = omega arith in parts.each k l h ∙ ap (λ (m : ℕ). of_worker m history) e)
+
+all_workers : (passes : List PassView) (history : List Receipt) → AreParts history (receipts_of_all passes) → All (λ r. r.worker < length passes) history
+all_workers passes history parts =
+    subst (λ (n : ℕ). All (λ (r : Receipt). r.worker < n) history) (length-map passes (λ (p : PassView). p.receipts)) parts.all
+
 -- ---- the image behind the history
 
 map_elem : {A B : Type 0} (f : A → B) (xs : List A) (k : ℕ) (x : A) → get_elem? xs k ≡ some x → get_elem? (map f xs) k ≡ some (f x)
@@ -159,23 +181,22 @@ module _ (p s : ℕ) (start : Start) (words : List ℕ) (values : List StateValu
       }
 
   -- what is merged of the parts, with the image
-  pub closes : (passes : List PassView) (merged : List Receipt) (end : ImageView) → parts ≡ receipts_of_all passes → IsPermutation (joined parts) merged → IsIncreasing merged
-      → end ≡ left_image → Closes (image_of start) passes merged end
-  closes passes merged end are all increasing is =
+  pub closes : (d : DatabaseView) (passes : List PassView) (merged : List Receipt) (end : ImageView) → AreAll d passes → parts ≡ receipts_of_all passes
+      → IsPermutation (joined parts) merged → IsIncreasing merged → end ≡ left_image → Closes (image_of start) passes merged end
+  closes d passes merged end numbered are all increasing is =
       let same : merged ≡ e.history =
       merged_is_history e.history merged e.legal.in_order increasing
       (IsPermutation-trans merged (joined parts) e.history (IsPermutation-sym (joined parts) merged all) (parts_are_all e.history parts e.are_parts)) in
-      subst (λ (h : List Receipt). Closes (image_of start) passes h end) (sym same)
-      (subst (λ (i : ImageView). Closes (image_of start) passes e.history i) (sym is) (at_end passes are (
       let a : length merged ≡ length (joined parts) = length_permutation (joined parts) merged all in
       let b : length merged ≡ length e.history = ap (λ (h : List Receipt). length h) same in
-      sym b ∙ a)))
-    where
-      at_end : (passes : List PassView) → parts ≡ receipts_of_all passes → length e.history ≡ length (joined parts) → Closes (image_of start) passes e.history left_image
-      at_end passes are count = record {
+      let mine : AreParts e.history (receipts_of_all passes) = subst (λ (ls : List (List Receipt)). AreParts e.history ls) are e.are_parts in
+      let at_end : Closes (image_of start) passes e.history left_image = record {
         legal = e.legal;
-        parts = subst (λ (ls : List (List Receipt)). AreParts e.history ls) are e.are_parts;
-        count = count ∙ (ap (λ (ls : List (List Receipt)). length (joined ls)) are ∙ joined_total passes);
         machine = refl;
+        workers = all_workers passes e.history mine;
+        parts = parts_of_each d passes e.history numbered mine;
+        count = sym b ∙ (a ∙ (ap (λ (ls : List (List Receipt)). length (joined ls)) are ∙ joined_total passes));
         within = left_within;
-      }
+      } in
+      subst (λ (h : List Receipt). Closes (image_of start) passes h end) (sym same)
+      (subst (λ (i : ImageView). Closes (image_of start) passes e.history i) (sym is) at_end)

@@ -1,2 +1,4 @@
 pub mod Passes
 pub mod Closing
+pub mod Reading
+pub mod Calls

@@ -1,11 +1,12 @@
 -- What a contract sees of a database and of its passes.
-use Rattle.std.specs.Prelude.{◌≡◌, ℕ, ◌+◌, ◌-◌, ◌≤◌, List, [], ◌∷◌, length}
+use Rattle.std.specs.Prelude.{◌≡◌, ℕ, ◌+◌, ◌-◌, ◌≤◌, List, [], ◌∷◌, length, Option, None, Some}
 use Rattle.atomic_table.specs.Seated.{TableId}
 use Rattle.xf_types.specs.declared.call.Receipt.{Receipt}
 use Rattle.xf_views.specs.declared.view.Start.{Start}
 use Rattle.xf_opening.specs.Images.{ImageView, IsAtRest, image_in}
 use Rattle.xf_values.specs.declared.state_value.StateValue.{StateValue}
 use Rattle.xf_live.specs.Passes as live
+use Rattle.xf_desk.specs.Nothing.{no_pass}
 
 -- which database it is: its table, and how that began
 pub record DatabaseId : Type 0 where
@@ -36,6 +37,11 @@ pub record IsStart (policies states : ℕ) (start : Start) : Type 0 where
   pub states_are : start.states ≡ states
   pub rests : IsAtRest start.policies start.states start.words start.homes (image_of start)
 
+-- a table that began with such an image
+pub record IsBase (policies states : ℕ) (l : live.LiveView) : Type 0 where
+  pub start : IsStart policies states l.start
+  pub count : l.count ≡ length l.start.words
+
 -- a database over a table
 abbrev pub database_over : live.LiveView → DatabaseView
 database_over l = record { id = record { table = l.table; start = l.start }; start = image_of l.start; seats = l.start.seats }
@@ -50,6 +56,11 @@ pass_over p =
       spare = p.room - length p.view.knows.mine;
       drawn = p.view.knows.count;
     }
+
+-- the pass of the table; between calls one is there
+abbrev pub seat_of : Option (live.PassView StateValue) → live.PassView StateValue
+seat_of None = no_pass
+seat_of (Some p) = p
 
 -- it holds nothing and began nothing
 pub record IsResting (p : live.PassView StateValue) : Type 0 where

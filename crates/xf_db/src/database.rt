@@ -1,13 +1,25 @@
 //! A database that threads share.
 ghost use Rattle.std.specs.Prelude.{◌≡◌, ◌≤◌, OnOk};
+ghost use Rattle.xf_db.specs.Calls.{Calls};
 ghost use Rattle.xf_db.specs.Passes.{HasRoom, IsOf};
+ghost use Rattle.xf_db.specs.Reading.{Reads};
 
 use crate::pass::Pass;
+use crate::reading::still;
+use std::alloc::Global;
 use std::marker::Model;
+use std::sync::Wait;
 use xf_live::Live;
 use xf_opening::Sizes;
-use xf_types::NoMemory;
+use xf_types::{Call, NoMemory, Place};
 use xf_values::StateValue;
+
+/// The pass has drawn too often.
+#[derive(Clone, Copy, PartialEq, Eq, Debug)]
+pub struct Worn;
+
+/// How many numbers and tickets a pass may have drawn before a call.
+const MOST: u64 = 1 << 40;
 
 /// A database that is open. A contract sees which one it is, the image that it was opened over, and how many passes it has.
 pub struct Xfrm {
@@ -19,13 +31,13 @@ pub struct Xfrm {
 
 impl Model for Xfrm {
     ghost use Rattle.std.specs.Prelude.{◌≡◌, ◌≤◌, [], vec_capacity};
-    ghost use Rattle.xf_db.specs.Passes.{DatabaseView, IsStart, database_over};
+    ghost use Rattle.xf_db.specs.Passes.{DatabaseView, IsBase, database_over};
 
     ghost Value = { DatabaseView };
 
     ghost view = { λ d. database_over d.live };
 
-    ghost invariant = { λ d. IsStart d.sizes.policies d.sizes.states d.live.start
+    ghost invariant = { λ d. IsBase d.sizes.policies d.sizes.states d.live
         × (d.room.items ≡ []) × (d.live.start.seats ≤ vec_capacity d.room) };
 }
 
@@ -37,6 +49,33 @@ impl Xfrm {
         ensures stays { pass.new ≡ record pass.old { spare = pass.new.spare } }
         ensures grows { pass.old.spare ≤ pass.new.spare }
     {
-        self.live.reserve(&mut pass.seat, places)
+        let Some(seat) = &mut pass.seat else {
+            unreachable!()
+        };
+        self.live.reserve(seat, places)
+    }
+
+    /// Makes a call that only reads, and records its receipt. Nothing is recorded where the pass has drawn too often.
+    pub fn read<R: Wait>(
+        &self,
+        rt: &R,
+        alloc: Global,
+        pass: &mut Pass,
+        at: Place,
+        call: Call,
+    ) -> Result<(), Worn>
+        requires is_of { IsOf self.now pass.old }
+        requires spare { 1 ≤ pass.old.spare }
+        requires reads { Reads call }
+        ensures { Calls at call pass.old pass.new result }
+    {
+        if pass.drawn() >= MOST {
+            return Err(Worn);
+        }
+        let Some(seat) = pass.seat.take() else {
+            unreachable!()
+        };
+        pass.seat = Some(still(&self.live, rt, seat, self.sizes, alloc, at, call));
+        Ok(())
     }
 }

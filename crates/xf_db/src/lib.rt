@@ -5,9 +5,10 @@ mod closing;
 mod database;
 mod opening;
 mod pass;
+mod reading;
 mod rows;
 
 pub use closing::{Closed, NotClosed};
-pub use database::Xfrm;
+pub use database::{Worn, Xfrm};
 pub use opening::Returned;
 pub use pass::Pass;

@@ -19,7 +19,7 @@ pub(crate) fn dress(
     let mut seats = seats;
     let mut passes = room;
     while let Some(seat) = seats.pop() {
-        passes.push_reserved(Pass { seat });
+        passes.push_reserved(Pass { seat: Some(seat) });
     }
     passes.reverse();
     (passes, seats)
@@ -38,6 +38,7 @@ pub(crate) fn undress(
     let mut seats = room;
     while let Some(pass) = passes.pop() {
         let Pass { seat } = pass;
+        let Some(seat) = seat else { unreachable!() };
         seats.push_reserved(seat);
     }
     passes.destroy_empty();

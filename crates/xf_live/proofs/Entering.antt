@@ -44,6 +44,7 @@ module _ (good : ℕ → ℕ → List ℕ → Told → Type 0) (lists : ℕ → 
       stands = e.stands.stands;
       kept = e.stands.kept;
     };
+    grown = record { first = e.grown.first; opens = e.grown.opens; within = e.grown.within };
   }
 
 module _ {X : Type 0} (good : ℕ → ℕ → List ℕ → Told → Type 0) (lists : ℕ → ℕ → List ℕ → ℕ → Option (Sa × ℕ)) where

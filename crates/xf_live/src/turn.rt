@@ -50,7 +50,7 @@ impl<T: Meaning> Live<T> {
     }
 
     /// Waits for the turn.
-    #[tactic(auto, using(crate::proofs::Entering::waits, crate::proofs::Entering::waits_on, crate::proofs::Entering::comes))]
+    #[tactic(auto, using(crate::proofs::Entering::waits))]
     pub fn enter_turn<R: Wait>(&self, rt: &R, pass: &mut Pass<T>)
         requires table { IsHere self.now pass.old }
         requires free { pass.old.view.hand.has_turn ≡ false }
@@ -62,10 +62,11 @@ impl<T: Meaning> Live<T> {
         let backoff = Backoff::new();
         for _ in rt.forever() {
             if self.look_serving(pass) == ticket {
-                break;
+                return;
             }
             backoff.snooze();
         }
+        unreachable!()
     }
 
     /// Gives the turn back.

@@ -1,4 +1,5 @@
 pub mod Regions
+pub mod Growing
 pub mod Scenes
 pub mod Turning
 pub mod Wording

@@ -21,8 +21,8 @@ use Rattle.xf_invariant.proofs.ImageOpenings.{begin_keeps_image, finish_keeps_im
 use Rattle.xf_ownpart.specs.Lists.{IsListing}
 use Rattle.xf_table.specs.Rule.{Ruled, most, good_at}
 use Rattle.xf_table.specs.Rows.{MayTicket, MayLook, IsShut, IsDrawn}
-use Rattle.xf_table.specs.Plays.{Now, takes_ticket, looks_serving, leaves, begins, finishes}
-use Rattle.xf_table.proofs.Scenes.{up, small, known, quiet_ruled, stands_with}
+use Rattle.xf_table.specs.Plays.{Now, Enters, takes_ticket, looks_serving, leaves, begins, finishes}
+use Rattle.xf_table.proofs.Scenes.{up, small, known, quiet_ruled, entering}
 
 module _ {T : Type 0} (bucket_of : Sa → ℕ) (good : ℕ → ℕ → List ℕ → Told → Type 0) (lists : ℕ → ℕ → List ℕ → ℕ → Option (Sa × ℕ)) (machine : ℕ → ℕ → List ℕ → List Standing → Machine) (standing : T → Standing)
     (listing : (p s : ℕ) → IsListing (good p s) (lists p s)) (start : Start) (slots id : ℕ) (me : Now T) (here : me.0.here ≡ true) where
@@ -70,11 +70,11 @@ module _ {T : Type 0} (bucket_of : Sa → ℕ) (good : ℕ → ℕ → List ℕ 
           r.image,
           refl,
           λ came.
-              record {
-                size = r.sizes.image_is ∙ ap (λ (x : Start). length x.words) (sym (known bucket_of good lists machine standing listing start s r id me.0 at here));
-                stands = stands_with bucket_of good lists machine standing listing start (after s 1 r.numbers.serving w) after_it id w (set_here s.views id w (at_below s.views id me.0 at)) here
-                    (subst (λ x. is_served me.0.hand.ticket x ≡ true) found came) idle;
-              },
+              let size = r.sizes.image_is ∙ ap (λ (x : Start). length x.words) (sym (known bucket_of good lists machine standing listing start s r id me.0 at here)) in
+              let e : Enters good lists w r.image =
+              entering bucket_of good lists machine standing listing start (after s 1 r.numbers.serving w) after_it id w (set_here s.views id w (at_below s.views id me.0 at)) here
+              (subst (λ x. is_served me.0.hand.ticket x ≡ true) found came) idle size in
+              record { size = size; stands = e.stands; grown = e.grown },
         ),
       )
     where

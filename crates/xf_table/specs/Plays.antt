@@ -22,6 +22,7 @@ use Rattle.xf_ownpart.specs.OwnPart.{listed_at}
 use Rattle.xf_ownpart.specs.Turns.{touched_turn, moved_turn}
 use Rattle.xf_seats.specs.Opened.{slots_of}
 use Rattle.xf_table.specs.Rule.{good_at, lists_at}
+use Rattle.xf_table.specs.Growth.{HasGrown}
 
 -- what a seat knows, and the slots that it carries
 abbrev pub Now : Type 0 → Type 0
@@ -62,6 +63,7 @@ module _ (good : ℕ → ℕ → List ℕ → Told → Type 0) (lists : ℕ → 
   pub record Enters (v : View) (image : List ℕ) : Type 0 where
     pub size : length image ≡ length v.life.start.words
     pub stands : StandsWith v.life.start image v.own.turns
+    pub grown : HasGrown (good_at good v.life.start) v.life.start.words stands.told
 
 module _ {T : Type 0} where
   abbrev pub takes_ticket : Step (Option T) → Now T → ℕ → Now T → Type 0

@@ -30,9 +30,9 @@ pub after-requires-clause-left : goal.after-requires-clause-left
 after-requires-clause-left c =
     let parts = lists_of_all c.undress-seats.result.items in (
       left_image c.self.inside.sizes.policies c.self.inside.sizes.states c.self.inside.live.start c.close-closed.result.words.items c.close-closed.result.values.items parts
-          c.self.invariant.0 c.close-closed.ensures.history,
+          c.self.invariant.0.start c.close-closed.ensures.history,
       left_stands c.self.inside.sizes.policies c.self.inside.sizes.states c.self.inside.live.start c.close-closed.result.words.items c.close-closed.result.values.items parts
-          c.self.invariant.0 c.close-closed.ensures.history,
+          c.self.invariant.0.start c.close-closed.ensures.history,
     )
 
 pub returns : goal.returns
@@ -44,11 +44,11 @@ returns c =
     let values = c.close-closed.result.values.items in
     let parts = lists_of_all c.undress-seats.result.items in
     let e = c.close-closed.ensures.history in
-    let stands = left_stands p s start words values parts c.self.invariant.0 e in
-    let is = c.after.ensures (left_image p s start words values parts c.self.invariant.0 e) stands in
+    let stands = left_stands p s start words values parts c.self.invariant.0.start e in
+    let is = c.after.ensures (left_image p s start words values parts c.self.invariant.0.start e) stands in
     let are = lists_are c.args.passes.items c.undress-seats.result.items c.undress-seats.ensures.passes c.close-closed.result.receipts.items c.close-closed.ensures.receipts in
     let all : IsPermutation (joined parts) c.merge-history.result.items =
     subst (λ (rs : List Receipt). IsPermutation rs c.merge-history.result.items)
     (all_joined c.close-closed.result.receipts.items ∙ ap joined c.close-closed.ensures.receipts) c.merge-history.ensures.all in
     subst (λ (d : DatabaseView). Closes d.start c.args.passes.items c.merge-history.result.items c.after.result) c.self.view_is
-    (closes p s start words values parts c.self.invariant.0 e c.args.passes.items c.merge-history.result.items c.after.result are all c.merge-history.ensures.in_order is)
+    (closes p s start words values parts c.self.invariant.0.start e c.args.self c.args.passes.items c.merge-history.result.items c.after.result c.requires.all are all c.merge-history.ensures.in_order is)

@@ -1,4 +1,5 @@
-use Rattle.std.proofs.Common.{◌≡◌, sym, ◌∙◌, arith, length, vec_capacity}
+use Rattle.std.proofs.Common.{◌≡◌, sym, ◌∙◌, arith, length, vec_capacity, ap}
+use Rattle.xf_views.specs.declared.view.Start.{Start}
 use Rattle.xf_opening.specs.Images.{homes_of}
 use Rattle.xf_opening.proofs.Images.{image_is, told_rests}
 use Rattle.xf_db.proofs.Beginnings.{opened_from, starts_at, all_rest, same_rests, is_opened}
@@ -17,8 +18,13 @@ invariant_of-result c =
     let r = c.into_parts-words.result in
     let a : c.in-Ok-new.live.start.seats ≡ length c.in-Ok-new.passes.items = sym c.in-Ok-new.ensures.passes.count in
     let b = c.in-Ok-new.passes.ok in
-    let e : vec_capacity c.dress-passes.result.1 ≡ vec_capacity c.in-Ok-new.passes = c.dress-passes.ensures.room.1 in (
-      starts_at c.args.seats r.0.policies r.0.states r.1.items r.2.items c.args.image c.into_parts-words.ensures c.in-Ok-new.live.start c.in-Ok-new.ensures.table.0,
+    let e : vec_capacity c.dress-passes.result.1 ≡ vec_capacity c.in-Ok-new.passes = c.dress-passes.ensures.room.1 in
+    let count : c.in-Ok-new.live.count ≡ length c.in-Ok-new.live.start.words =
+    c.in-Ok-new.ensures.table.1 ∙ (r.1.ok.0 ∙ sym (ap (λ (x : Start). length x.words) c.in-Ok-new.ensures.table.0)) in (
+      record {
+        start = starts_at c.args.seats r.0.policies r.0.states r.1.items r.2.items c.args.image c.into_parts-words.ensures c.in-Ok-new.live.start c.in-Ok-new.ensures.table.0;
+        count = count;
+      },
       c.dress-passes.ensures.room.0,
       omega (arith, a, b.0, b.1, e),
     )
