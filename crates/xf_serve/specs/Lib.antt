@@ -1,0 +1,4 @@
+pub mod Served
+pub mod Reading
+pub mod Settling
+pub mod Changing
