@@ -7,6 +7,8 @@ mod opening;
 mod pass;
 mod reading;
 mod rows;
+#[cfg(test)]
+mod tests;
 
 pub use closing::{Closed, NotClosed};
 pub use database::{Worn, Xfrm};
