@@ -1,4 +1,3 @@
 pub mod Passes
 pub mod Closing
-pub mod Reading
 pub mod Calls

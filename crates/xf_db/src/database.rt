@@ -2,15 +2,15 @@
 ghost use Rattle.std.specs.Prelude.{◌≡◌, ◌≤◌, OnOk};
 ghost use Rattle.xf_db.specs.Calls.{Calls};
 ghost use Rattle.xf_db.specs.Passes.{HasRoom, IsOf};
-ghost use Rattle.xf_db.specs.Reading.{Reads};
+ghost use Rattle.xf_serve.specs.Reading.{OnlyReads};
 
 use crate::pass::Pass;
-use crate::reading::still;
 use std::alloc::Global;
 use std::marker::Model;
 use std::sync::Wait;
 use xf_live::Live;
 use xf_opening::Sizes;
+use xf_serve::read;
 use xf_types::{Call, NoMemory, Place};
 use xf_values::StateValue;
 
@@ -19,7 +19,7 @@ use xf_values::StateValue;
 pub struct Worn;
 
 /// How many numbers and tickets a pass may have drawn before a call.
-const MOST: u64 = 1 << 40;
+pub(crate) const MOST: u64 = 1 << 40;
 
 /// A database that is open. A contract sees which one it is, the image that it was opened over, and how many passes it has.
 pub struct Xfrm {
@@ -56,6 +56,7 @@ impl Xfrm {
     }
 
     /// Makes a call that only reads, and records its receipt. Nothing is recorded where the pass has drawn too often.
+    #[tactic(auto, using(crate::proofs::Runs::table_of, crate::proofs::Runs::rests_from, crate::proofs::Runs::rests_again, crate::proofs::Runs::records))]
     pub fn read<R: Wait>(
         &self,
         rt: &R,
@@ -66,7 +67,7 @@ impl Xfrm {
     ) -> Result<(), Worn>
         requires is_of { IsOf self.now pass.old }
         requires spare { 1 ≤ pass.old.spare }
-        requires reads { Reads call }
+        requires reads { OnlyReads call }
         ensures { Calls at call pass.old pass.new result }
     {
         if pass.drawn() >= MOST {
@@ -75,7 +76,8 @@ impl Xfrm {
         let Some(seat) = pass.seat.take() else {
             unreachable!()
         };
-        pass.seat = Some(still(&self.live, rt, seat, self.sizes, alloc, at, call));
+        let Sizes { policies, states } = self.sizes;
+        pass.seat = Some(read(alloc, &self.live, rt, seat, policies, states, at, call));
         Ok(())
     }
 }

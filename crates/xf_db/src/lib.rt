@@ -5,7 +5,7 @@ mod closing;
 mod database;
 mod opening;
 mod pass;
-mod reading;
+mod policies;
 mod rows;
 #[cfg(test)]
 mod tests;

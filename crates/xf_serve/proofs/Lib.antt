@@ -4,3 +4,4 @@ pub mod Answered
 pub mod Policies
 pub mod Written
 pub mod Changed
+pub mod Adding

@@ -49,7 +49,7 @@ answer_in_place p s i j b n c r t es fits frame alike time whole on st =
 
 -- ---- what all wrote
 
-without_none : (xs : List ℕ) → without (λ slot. false) xs ≡ xs
+pub without_none : (xs : List ℕ) → without (λ slot. false) xs ≡ xs
 without_none [] = refl
 without_none (x ∷ xs) = ap (λ (ys : List ℕ). x ∷ ys) (without_none xs)
 

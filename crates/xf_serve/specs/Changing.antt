@@ -1,5 +1,6 @@
 -- The calls that change policies alone: what they write.
-use Rattle.std.specs.Prelude.{◌≡◌, ℕ, ◌+◌, ◌≤◌, true, false, List, length, slice_index}
+use Rattle.xf_types.specs.declared.call.Reply.TheVariants as reply
+use Rattle.std.specs.Prelude.{◌<◌, ◌⊎◌, Option, None, Some, ◌≡◌, ℕ, ◌+◌, ◌≤◌, true, false, List, length, slice_index}
 use Rattle.xf_types.specs.declared.call.Call.{Call}
 use Rattle.xf_types.specs.declared.call.Reply.{Reply}
 use Rattle.xf_types.specs.History.{is_contended}
@@ -29,3 +30,14 @@ pub record PolicyMove (p s : ℕ) (old new : List ℕ) (c : Call) (r : Reply) : 
 pub record PolicyAnswer (p s : ℕ) (old new : List ℕ) (c : Call) (r : Reply) : Type 0 where
   pub moved : is_moving r ≡ true → PolicyMove p s old new c r
   pub still : is_moving r ≡ false → (new ≡ old) × (is_contended r ≡ false) × RepliesBy p s old c r
+
+-- there is a slot, and a word for it
+abbrev pub IsPlaced : ℕ → Option ℕ → Type 0
+IsPlaced size None = ⊥
+IsPlaced size (Some slot) = slot < size
+
+-- the reply, or want of memory in the place of one that comes of other threads
+pub record IsCalmOf (given result : Reply) : Type 0 where
+  pub still : is_moving result ≡ false
+  pub settled : is_contended result ≡ false
+  pub same : (result ≡ reply.NoMemory) ⊎ (result ≡ given)

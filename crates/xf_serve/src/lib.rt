@@ -5,6 +5,8 @@ mod changing;
 mod reading;
 mod settling;
 
-pub use changing::{policy_set, set};
-pub use reading::{policy_count, policy_get, policy_list, state_count, state_get, state_list};
+pub use changing::{add, policy_add, policy_set, set};
+pub use reading::{
+    policy_count, policy_get, policy_list, read, state_count, state_get, state_list,
+};
 pub use settling::{settle_moving, settle_still};

@@ -80,8 +80,8 @@ fn ask<B: From>(
     (desk.end(), reply)
 }
 
-/// Such a call, by a pass that rests.
-fn still<R: Wait>(
+/// A call that only reads.
+pub fn read<R: Wait>(
     alloc: Global,
     live: &Live<StateValue>,
     rt: &R,
@@ -123,7 +123,7 @@ pub fn policy_get<R: Wait>(
     ensures here { IsHere live.now result }
     ensures served { Served at (call.PolicyGet key) pass result }
 {
-    still(
+    read(
         alloc,
         live,
         rt,
@@ -152,7 +152,7 @@ pub fn policy_list<R: Wait>(
     ensures here { IsHere live.now result }
     ensures served { Served at (call.PolicyList filter) pass result }
 {
-    still(
+    read(
         alloc,
         live,
         rt,
@@ -180,7 +180,7 @@ pub fn policy_count<R: Wait>(
     ensures here { IsHere live.now result }
     ensures served { Served at call.PolicyCount pass result }
 {
-    still(
+    read(
         alloc,
         live,
         rt,
@@ -209,7 +209,7 @@ pub fn state_get<R: Wait>(
     ensures here { IsHere live.now result }
     ensures served { Served at (call.StateGet id) pass result }
 {
-    still(
+    read(
         alloc,
         live,
         rt,
@@ -238,7 +238,7 @@ pub fn state_list<R: Wait>(
     ensures here { IsHere live.now result }
     ensures served { Served at (call.StateList filter) pass result }
 {
-    still(
+    read(
         alloc,
         live,
         rt,
@@ -266,7 +266,7 @@ pub fn state_count<R: Wait>(
     ensures here { IsHere live.now result }
     ensures served { Served at call.StateCount pass result }
 {
-    still(
+    read(
         alloc,
         live,
         rt,

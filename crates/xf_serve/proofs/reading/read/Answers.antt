@@ -1,7 +1,7 @@
 use Rattle.std.proofs.Common.{refl}
 use Rattle.xf_serve.proofs.Runs.{lends}
 use Rattle.xf_serve.proofs.Answered.{answered, may_stay, stays_honestly, served_still}
-use Rattle.xf_serve.proofs.reading.still.Goals as goal
+use Rattle.xf_serve.proofs.reading.read.Goals as goal
 
 pub ask-pass-requires-clause-said : goal.ask-pass-requires-clause-said
 ask-pass-requires-clause-said g c = (refl, refl)

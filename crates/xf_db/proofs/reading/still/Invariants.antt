@@ -1,4 +1,0 @@
-use Rattle.xf_db.proofs.reading.still.Given as goal
-
-abbrev pub ghosts-ask : goal.ghosts-ask
-ghosts-ask g a = record { live = a.live.now; pass = a.seat }
