@@ -1,0 +1,3 @@
+pub mod OnSlot
+pub mod Handled
+pub mod HandleLaws
